@@ -1,0 +1,4 @@
+pub mod NumberLaws
+pub mod StoreLaws
+pub mod FormatLaws
+pub mod TextLaws

@@ -1,0 +1,4 @@
+pub mod Each
+pub mod Number
+pub mod Format
+pub mod Text
