@@ -1,0 +1,53 @@
+//! Writes cases for a listing program: `listings FOLDER CASES FIRST-SEED`.
+//!
+//! Each case is a folder with routine.bin, world.bin, call.bin and, as
+//! expected.txt, what the original prints: `Run::text` with the statement's
+//! number for its text and `node N` where it prints an expression, or
+//! `; refused N`. An empty file is left out, since the program takes a file
+//! that it cannot open as empty.
+
+use std::path::Path;
+use std::{env, fs};
+
+use oracle::cases::case;
+use oracle::generate::Size;
+use oracle::judge::{judge, Files, LEAST_WORKSPACE};
+use oracle::tiny;
+
+/// The record buffer of the listing program.
+const BUFFER: usize = 65_536;
+
+fn main() {
+    let mut arguments = env::args().skip(1);
+    let folder = arguments.next().unwrap_or_else(|| "listings".to_string());
+    let folder = Path::new(&folder);
+    let mut numbers = arguments.map(|text| text.parse::<u64>().expect("a decimal number"));
+    let cases = numbers.next().unwrap_or(600);
+    let first = numbers.next().unwrap_or(2_000_000);
+    let tiny = tiny::cases();
+    for case in &tiny {
+        write(&folder.join(case.name), &case.files);
+    }
+    for seed in first..first + cases {
+        let files = case(seed, Size::Any).files;
+        write(&folder.join(seed.to_string()), &files);
+    }
+    println!("{} tiny and {cases} generated cases", tiny.len());
+}
+
+fn write(folder: &Path, files: &Files) {
+    fs::create_dir_all(folder).expect("the folder can be made");
+    let put = |name: &str, bytes: &[u8]| {
+        fs::write(folder.join(name), bytes).expect("the file can be written");
+    };
+    let listing = judge(files, BUFFER, LEAST_WORKSPACE).listing();
+    put("expected.txt", listing.as_bytes());
+    let named = [
+        ("routine.bin", &files.routine),
+        ("world.bin", &files.world),
+        ("call.bin", &files.call),
+    ];
+    for (name, bytes) in named.into_iter().filter(|(_, bytes)| !bytes.is_empty()) {
+        put(name, bytes);
+    }
+}
