@@ -1,5 +1,5 @@
 -- What is written is read back, for each format (`Sound F P`: for the values of which P holds, and every value read is one). Assumes nothing.
-use mathlib.Core.Path.{_≡_, refl, sym, ap, _∙_}
+use mathlib.Core.Path.{_≡_, refl, sym, ap, _∙_, subst}
 use mathlib.Core.List.{List, [], _∷_, _++_, append-assoc}
 use Prim.Native.Nat.{ℕ, zero, suc, _+_, _^_, _≤_, _<_}
 use native.Mathlib.Nat.{not-suc-le-zero}
@@ -9,7 +9,7 @@ use lib.Seq.{take-at, drop-at}
 use Rattle.layout.specs.Each.{Each}
 use Rattle.layout.specs.Number.{le, num}
 use Rattle.layout.proofs.NumberLaws.{length-le, num-le, num-take-lt}
-use Rattle.layout.specs.Format.{Format, number, zeroByte, then, pair, via, writes, reads, counted, every, whole}
+use Rattle.layout.specs.Format.{Format, number, zeroByte, then, pair, via, writes, reads, times, counted, every, whole}
 
 pub record Sound {A : Type 0} (F : Format A) (P : A → Type 0) : Type 0 where
   pub back : (a : A) → P a → (rest : List ℕ) → F .read (F .write a ++ rest) ≡ (a, rest)
@@ -68,6 +68,12 @@ module _ {A : Type 0} {F : Format A} {P : A → Type 0} (f : Sound F P) where
   reads-fits : (n : ℕ) (bs : List ℕ) → Each P (reads F n bs .0)
   reads-fits zero bs = tt
   reads-fits (suc n) bs = (f .fits bs, reads-fits n (F .read bs .1))
+
+  pub times-sound : (n : ℕ) → Sound (times n F) (λ xs. (length xs ≡ n) × Each P xs)
+  times-sound n = record {
+    back = λ xs h rest. subst (λ (m : ℕ). reads F m (writes F xs ++ rest) ≡ (xs, rest)) (h .0) (reads-back xs (h .1) rest);
+    fits = λ bs. (reads-length n bs, reads-fits n bs);
+  }
 
   pub counted-sound : (k : ℕ) → Sound (counted k F) (λ xs. Below k (length xs) × Each P xs)
   counted-sound k = record {

@@ -38,6 +38,10 @@ abbrev pub reads : {A : Type 0} → Format A → ℕ → List ℕ → List A × 
 reads F zero bs = ([], bs)
 reads F (suc n) bs = let r = F .read bs in let q = reads F n (r .1) in (r .0 ∷ q .0, q .1)
 
+-- so many, one after another
+abbrev pub times : {A : Type 0} → ℕ → Format A → Format (List A)
+times n F = record { write = writes F; read = reads F n }
+
 -- a count in k bytes, then so many
 abbrev pub counted : {A : Type 0} → ℕ → Format A → Format (List A)
 counted k F = record {

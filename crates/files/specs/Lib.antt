@@ -1,0 +1,14 @@
+pub mod Bytes
+pub mod Items
+pub mod FileTable
+pub mod Names
+pub mod Head
+pub mod Nodes
+pub mod Rules
+pub mod Blocks
+pub mod WorldFile
+pub mod Refusal
+pub mod Program
+pub mod Spells
+pub mod Call
+pub mod World

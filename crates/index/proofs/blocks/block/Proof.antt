@@ -1,0 +1,26 @@
+use Rattle.index.proofs.BlockIndex.{block-placed}
+use borrow.Author.Needs.{needs}
+use Rattle.index.proofs.blocks.block.Statement.{statement}
+use Rattle.index.proofs.blocks.block.Tie as tie
+
+mul-get16 : tie.Need-mul-get16
+mul-get16 c = search needs
+
+get16-requires : tie.Need-get16-requires
+get16-requires c κs = search needs
+
+mul-get16-2 : tie.Need-mul-get16-2
+mul-get16-2 c = search needs
+
+add-get16 : tie.Need-add-get16
+add-get16 c = search needs
+
+get16-requires-2 : tie.Need-get16-requires-2
+get16-requires-2 c κs = search needs
+
+returns : tie.Need-returns
+returns c = block-placed (c .before .get16 .ensures .0) (c .get162 .ensures .0)
+
+pub block-spec : {M : Type 1} → statement M
+block-spec =
+    tie.close (tie.spec mul-get16 get16-requires mul-get16-2 add-get16 get16-requires-2 returns)

@@ -1,0 +1,81 @@
+use denote.Ref.{now}
+use mathlib.Core.Path.{refl}
+use Rattle.memory.proofs.RunLaws.{too-many}
+use Rattle.memory.proofs.PartLaws.{lent-row, lent-spans}
+use borrow.Author.Needs.{needs}
+use Rattle.memory.proofs.store_run.Statement.{statement}
+use Rattle.memory.proofs.store_run.Tie as tie
+
+first-of-requires : tie.Need-first-of-requires
+first-of-requires c κs = search needs
+
+mul-from : tie.Need-mul-from
+mul-from c = search needs
+
+sub-span-of : tie.Need-sub-span-of
+sub-span-of c = search needs
+
+part-span-of-start : tie.Need-part-span-of-start
+part-span-of-start c = search needs
+
+part-span-of-end : tie.Need-part-span-of-end
+part-span-of-end c = search needs
+
+span-of-requires : tie.Need-span-of-requires
+span-of-requires c κs =
+    let f = c .before .before in
+    let x = f .before .before .before in
+    (lent-row (now (x .args .part)) (x .args .count) (f .first-of .result) (f .first-of .ensures) (x .pre .0), (x .pre .1 .0, x .pre .1 .2))
+
+add-next : tie.Need-add-next
+add-next c = search needs
+
+sub-next : tie.Need-sub-next
+sub-next c = search needs
+
+add-next-2 : tie.Need-add-next-2
+add-next-2 c = search needs
+
+same-length : tie.Need-same-length
+same-length c = search needs
+
+returns : tie.Need-returns
+returns c =
+    let s = c .before .before .before in
+    let f = s .before .before .before in
+    let x = f .before .before .before in
+    let w = lent-spans (now (x .args .part)) (x .args .count) (f .first-of .result) (f .first-of .ensures) (s .span-of .result) (x .args .address) (x .args .bytes) (s .span-of .ensures) in
+    (too-many (now (x .args .part)) (x .args .count) (x .pre .0) (s .span-of .result) (x .args .address) (x .args .number) (x .args .bytes) w (x .pre .1 .2) (c .if1 .taken), refl)
+
+splice-requires : tie.Need-splice-requires
+splice-requires c κs =
+    let s = c .before .before .before .before in
+    let f = s .before .before .before in
+    let x = f .before .before .before in
+    let w = lent-spans (now (x .args .part)) (x .args .count) (f .first-of .result) (f .first-of .ensures) (s .span-of .result) (x .args .address) (x .args .bytes) (s .span-of .ensures) in
+    (x .pre .0, record { span = w; some-bytes = x .pre .1 .0; no-wrap = x .pre .1 .2; few = c .before .if1 .left })
+
+same-length-2 : tie.Need-same-length-2
+same-length-2 c = search needs
+
+returns-2 : tie.Need-returns-2
+returns-2 c = search needs
+
+pub store-run-spec : {M : Type 1} → statement M
+store-run-spec =
+    tie.close
+    (tie.spec
+    first-of-requires
+    mul-from
+    sub-span-of
+    part-span-of-start
+    part-span-of-end
+    span-of-requires
+    add-next
+    sub-next
+    add-next-2
+    same-length
+    returns
+    splice-requires
+    same-length-2
+    returns-2)

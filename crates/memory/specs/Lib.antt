@@ -1,0 +1,3 @@
+pub mod Overlay
+pub mod Entries
+pub mod Post

@@ -1,0 +1,155 @@
+-- The bytes of a question with its answer: their groups, their lengths, and that the body grows by them. Assumes nothing.
+use mathlib.Core.Path.{_≡_, refl, sym, ap, ap₂, _∙_}
+use mathlib.Core.Bool.{Bool, true, false}
+use mathlib.Core.List.{List, [], _∷_, _++_, append-nil}
+use mathlib.Core.Option.{Option}
+use Prim.Native.Nat.{ℕ, zero, suc, _+_, _*_, _/_, _%_, _^_, _≤_, _<_}
+use native.Mathlib.Omega.{arith}
+use lib.ListN.{length, take, drop, length-append}
+use lib.Seq.{sets, length-take-le, take-add, take-at}
+use lib.Dec.{lit<}
+use Rattle.value.specs.declared.Val.{Val}
+use Rattle.layout.specs.Each.{Each}
+use Rattle.layout.specs.Number.{le, putNumber}
+use Rattle.layout.specs.Format.{number, writes}
+use Rattle.layout.proofs.NumberLaws.{length-le}
+use Rattle.layout.proofs.StoreLaws.{take-sets, drop-sets-at}
+use Rattle.layout.proofs.FormatLaws.{Below, writes-append}
+use Rattle.definition.specs.Question.{Entry}
+use Rattle.definition.specs.Fields.{val, codeOf, written, entry}
+use Rattle.definition.specs.Record.{questionsBody}
+use Rattle.definition.proofs.Fields.{ValFits, WrittenFits}
+use Rattle.stream.specs.declared.Symbol.{Symbol}
+use Rattle.stream.specs.declared.Symbol.the-variants.{AddressOf, SizeOf}
+use Rattle.stream.specs.Pieces.{valueBytes, optional, askedBy, questionBytes, symbolEntry, readEntry, callEntry, callBytes}
+use Rattle.stream.specs.Groups.{flaggedBytes, spanBytes, calleeBytes}
+use Rattle.stream.specs.Stream.{placed, advanced, Counted, Streamed}
+use Rattle.stream.proofs.StreamLaws.{writes-more, streamed-more, counted-more}
+use Rattle.stream.proofs.StoreLaws.{two-stored}
+
+-- ---- kinds 1 and 2
+
+symbol-bytes : (kind : Symbol) (name : ℕ) (o : Option ℕ) → le 1 (codeOf (askedBy kind)) ++ le 2 name ++ flaggedBytes o ≡ questionBytes (symbolEntry kind name o)
+unfolding questionBytes flaggedBytes
+symbol-bytes AddressOf name o = refl
+symbol-bytes SizeOf name o = refl
+
+pub length-symbol : (kind : Symbol) (name : ℕ) (o : Option ℕ) → length (questionBytes (symbolEntry kind name o)) ≡ 12
+unfolding questionBytes
+length-symbol AddressOf name o = refl
+length-symbol SizeOf name o = refl
+
+pub symbol-stored : (s t u w : List ℕ) (at k : ℕ) (kind : Symbol) (name : ℕ) (o : Option ℕ) → k ≡ codeOf (askedBy kind)
+    → t ≡ putNumber s at 1 k → u ≡ putNumber t (at + 1) 2 name → w ≡ sets u (at + 3) (flaggedBytes o) → w ≡ sets s at (questionBytes (symbolEntry kind name o))
+unfolding putNumber
+symbol-stored s t u w at k kind name o e p q r =
+    two-stored (le 1 k ++ le 2 name) (flaggedBytes o) s u w at (at + 3) (two-stored (le 1 k) (le 2 name) s t u at (at + 1) p q refl) r refl
+    ∙ ap (λ (c : ℕ). sets s at (le 1 c ++ le 2 name ++ flaggedBytes o)) e
+    ∙ ap (sets s at) (symbol-bytes kind name o)
+
+-- ---- kind 3
+
+-- bytes written one by one are the bytes
+le-bytes : (k n : ℕ) → writes (number 1) (le k n) ≡ le k n
+le-bytes zero n = refl
+le-bytes (suc k) n = λ i. let e : n % 256 % 256 ≡ n % 256 = omega arith in e i ∷ le-bytes k (n / 256) i
+
+read-bytes : (address size count number : ℕ) → spanBytes address size ++ le 1 count ++ le count number ≡ questionBytes (readEntry address size count number)
+unfolding questionBytes spanBytes
+read-bytes address size count number = rw (length-le count number, le-bytes count number)
+
+pub length-read : (address size count number : ℕ) → length (questionBytes (readEntry address size count number)) ≡ 11 + count
+unfolding spanBytes
+length-read address size count number = sym (ap length (read-bytes address size count number)) ∙ omega (arith, length-le count number)
+
+pub span-stored : (s t u w : List ℕ) (at address size : ℕ) → t ≡ putNumber s at 1 3 → u ≡ putNumber t (at + 1) 8 address → w ≡ putNumber u (at + 9) 1 size
+    → w ≡ sets s at (spanBytes address size)
+unfolding putNumber spanBytes
+span-stored s t u w at address size p q r =
+    two-stored (le 1 3 ++ le 8 address) (le 1 size) s u w at (at + 9) (two-stored (le 1 3) (le 8 address) s t u at (at + 1) p q refl) r refl
+
+pub read-stored : (s t u w : List ℕ) (at address size count number : ℕ) → t ≡ sets s at (spanBytes address size) → u ≡ putNumber t (at + 10) 1 count
+    → w ≡ sets u (at + 11) (le count number) → w ≡ sets s at (questionBytes (readEntry address size count number))
+unfolding putNumber spanBytes
+read-stored s t u w at address size count number p q r =
+    two-stored (spanBytes address size ++ le 1 count) (le count number) s u w at (at + 11)
+    (two-stored (spanBytes address size) (le 1 count) s t u at (at + 10) p q refl) r refl
+    ∙ ap (sets s at) (read-bytes address size count number)
+
+-- ---- kind 4
+
+pub callee-stored : (s t u w x : List ℕ) (at name address depth : ℕ) → t ≡ putNumber s at 1 4 → u ≡ putNumber t (at + 1) 2 name
+    → w ≡ putNumber u (at + 3) 8 address → x ≡ putNumber w (at + 11) 4 depth → x ≡ sets s at (calleeBytes name address depth)
+unfolding putNumber calleeBytes
+callee-stored s t u w x at name address depth p q r e =
+    two-stored (le 1 4 ++ le 2 name ++ le 8 address) (le 4 depth) s w x at (at + 11)
+    (two-stored (le 1 4 ++ le 2 name) (le 8 address) s u w at (at + 3) (two-stored (le 1 4) (le 2 name) s t u at (at + 1) p q refl) r refl) e refl
+
+pub length-call : (name address depth count : ℕ) (values : List ℕ) → 14 * count ≤ length values
+    → length (callBytes name address depth count (take (14 * count) values)) ≡ 17 + 14 * count
+unfolding callBytes
+length-call name address depth count values h =
+    omega (arith, length-append (take (14 * count) values) (le 1 0), length-take-le (14 * count) values h)
+
+pub call-stored : (s t u w x : List ℕ) (at name address depth count : ℕ) (values : List ℕ) → 14 * count ≤ length values
+    → t ≡ sets s at (calleeBytes name address depth) → u ≡ putNumber t (at + 15) 1 count → w ≡ sets u (at + 16) (take (14 * count) values)
+    → x ≡ putNumber w (at + 16 + 14 * count) 1 0 → x ≡ sets s at (callBytes name address depth count (take (14 * count) values))
+unfolding putNumber calleeBytes callBytes
+call-stored s t u w x at name address depth count values h p q r e =
+    let v = take (14 * count) values in
+    let l : length v ≡ 14 * count = length-take-le (14 * count) values h in
+    two-stored (calleeBytes name address depth) (le 1 count ++ (v ++ le 1 0)) s t x at (at + 15) p
+    (two-stored (le 1 count) (v ++ le 1 0) t u x (at + 15) (at + 16) q (two-stored v (le 1 0) u w x (at + 16) (at + 16 + 14 * count) r e (omega arith)) (omega arith)) refl
+
+-- values given as the bytes that they are
+pub call-bytes : (name address depth count : ℕ) (bytes : List ℕ) (vs : List Val) → length vs ≡ count → bytes ≡ writes val vs
+    → callBytes name address depth count bytes ≡ questionBytes (callEntry name address depth vs)
+unfolding questionBytes callBytes
+call-bytes name address depth count bytes vs l e = sym (ap₂ (callBytes name address depth) l (sym e))
+
+-- and how they come to be: one value more behind k others
+pub values-more : (area area′ : List ℕ) (vs : List Val) (v : Val) (k : ℕ) → 14 * k + 14 ≤ length area → take (14 * k) area ≡ writes val vs
+    → area′ ≡ sets area (14 * k) (valueBytes v) → take (14 * (k + 1)) area′ ≡ writes val (vs ++ v ∷ [])
+unfolding valueBytes
+values-more area area′ vs v k h e p =
+    let n : 14 * (k + 1) ≡ 14 * k + 14 = omega arith in
+    let b = valueBytes v in
+    let m : drop (14 * k) (sets area (14 * k) b) ≡ b ++ drop (14 * k + 14) area = drop-sets-at b area (14 * k) h in
+    ap₂ take n p
+    ∙ take-add (14 * k) 14 (sets area (14 * k) b)
+    ∙ ap₂ (λ (xs ys : List ℕ). xs ++ ys) (take-sets b area (14 * k) (14 * k) (omega arith) ∙ e) (ap (take 14) m ∙ take-at b (drop (14 * k + 14) area) 14 refl)
+    ∙ ap (λ (r : List ℕ). writes val vs ++ r) (sym (append-nil b))
+    ∙ sym (writes-append val vs (v ∷ []))
+
+-- ---- the fields hold what they are given: nothing is cut
+
+pub symbol-fits : (kind : Symbol) (name : ℕ) (known : Bool) (number : ℕ) → name < 256 ^ 2 → number < 256 ^ 8 → WrittenFits (written (symbolEntry kind name (optional known number)))
+symbol-fits AddressOf name true number h k = (tt, (h, (lit< tt, k)))
+symbol-fits AddressOf name false number h k = (tt, (h, (lit< tt, lit< tt)))
+symbol-fits SizeOf name true number h k = (tt, (h, (lit< tt, k)))
+symbol-fits SizeOf name false number h k = (tt, (h, (lit< tt, lit< tt)))
+
+le-each : (k n : ℕ) → Each (Below 1) (le k n)
+le-each zero n = tt
+le-each (suc k) n = (omega arith, le-each k (n / 256))
+
+pub read-fits : (address size count number : ℕ) → address < 256 ^ 8 → size < 256 → count < 256 → WrittenFits (written (readEntry address size count number))
+read-fits address size count number h k l = (tt, ((h, k), (rw length-le l, (refl, le-each count number))))
+
+pub call-fits : (name address depth : ℕ) (vs : List Val) → name < 256 ^ 2 → address < 256 ^ 8 → depth < 256 ^ 4 → length vs < 256 → Each ValFits vs
+    → WrittenFits (written (callEntry name address depth vs))
+call-fits name address depth vs a b c d e = (tt, ((a, b, c, d, e), lit< tt))
+
+-- ---- the body
+
+-- one question more
+pub questions-more : (es : List Entry) (e : Entry) → questionsBody (es ++ e ∷ []) ≡ questionsBody es ++ questionBytes e
+unfolding questionsBody questionBytes
+questions-more es e = writes-more entry written es e
+
+pub questions-streamed : {old out : List ℕ} {at : ℕ} (es : List Entry) (e : Entry) → Streamed old out at (questionsBody es)
+    → Streamed old (placed true out at (questionBytes e)) (advanced at (length (questionBytes e))) (questionsBody (es ++ e ∷ []))
+questions-streamed es e s = rw (questions-more es e) (streamed-more (questionBytes e) s)
+
+pub questions-counted : {at : ℕ} (es : List Entry) (e : Entry) → Counted at (questionsBody es) → Counted (advanced at (length (questionBytes e))) (questionsBody (es ++ e ∷ []))
+questions-counted es e c = rw (questions-more es e) (counted-more (questionBytes e) c)

@@ -1,0 +1,149 @@
+-- A record put together in a buffer: the bodies at their places, in the order in which a run writes them, and the pairs. Assumes nothing.
+use mathlib.Core.Path.{_≡_, refl, sym, ap, _∙_}
+use mathlib.Core.List.{List, [], _∷_, _++_, map, append-nil}
+use Prim.Native.Nat.{ℕ, suc, _+_, _≤_, _<_}
+use native.Mathlib.Nat.{zero-add, lt-irrefl}
+use native.Mathlib.Omega.{arith}
+use lib.ListN.{length, drop, set, length-append}
+use lib.Seq.{sets, sets-eq, set-comm}
+use Rattle.layout.specs.Each.{Each}
+use Rattle.layout.specs.Number.{le}
+use Rattle.definition.specs.Statements.{Stop}
+use Rattle.definition.specs.Record.{Ran, stopBody, countsBody, stepsBody, variablesBody, memoryBody, questionsBody, bodies, pairs, layout, recordBytes}
+use Rattle.stream.specs.declared.Lengths.{Lengths}
+use Rattle.stream.specs.Bodies.{pairsOf, lengthsOf}
+use Rattle.stream.proofs.StoreLaws.{two-stored}
+
+-- ---- stores that do not meet may change places
+
+set-sets : (ys l : List ℕ) (i j v : ℕ) → i < j → sets (set l i v) j ys ≡ set (sets l j ys) i v
+set-sets [] l i j v h = refl
+set-sets (y ∷ ys) l i j v h =
+    ap (λ (t : List ℕ). sets t (suc j) ys) (set-comm l i j v y (λ e. lt-irrefl j (omega arith))) ∙ set-sets ys (set l j y) i (suc j) v (omega arith)
+
+pub sets-swap : (xs ys l : List ℕ) (i j : ℕ) → i + length xs ≤ j → sets (sets l i xs) j ys ≡ sets (sets l j ys) i xs
+sets-swap [] ys l i j h = refl
+sets-swap (x ∷ xs) ys l i j h =
+    sets-swap xs ys (set l i x) (suc i) j (omega arith) ∙ ap (λ (t : List ℕ). sets t (suc i) xs) (set-sets ys l i j x (omega arith))
+
+-- a place, and the bytes to store there; one such store after the other
+abbrev Store : Type 0
+Store = ℕ × List ℕ
+
+abbrev stores : List ℕ → List Store → List ℕ
+stores l [] = l
+stores l (w ∷ ws) = stores (sets l (w .0) (w .1)) ws
+
+-- what is stored below all others may be stored first
+below-first : (ws : List Store) (i : ℕ) (b l : List ℕ) → Each (λ w. i + length b ≤ w .0) ws → sets (stores l ws) i b ≡ stores (sets l i b) ws
+below-first [] i b l h = refl
+below-first (w ∷ ws) i b l h =
+    below-first ws i b (sets l (w .0) (w .1)) (h .1) ∙ ap (λ (t : List ℕ). stores t ws) (sym (sets-swap b (w .1) l i (w .0) (h .0)))
+
+-- ---- lengths
+
+pub length-stop : (s : Stop) → length (stopBody s) ≡ 39
+unfolding stopBody
+length-stop s = refl
+
+pub length-counts : (entered recorded : ℕ) → length (countsBody entered recorded) ≡ 12
+unfolding countsBody
+length-counts entered recorded = refl
+
+-- ---- the pairs by the lengths alone
+
+pub pairs-of : (o : ℕ) (bs : List (List ℕ)) → pairsOf o (map length bs) ≡ pairs o bs
+unfolding pairsOf
+pairs-of o [] = refl
+pairs-of o (b ∷ bs) = ap (λ (r : List ℕ). le 4 o ++ (le 4 (length b) ++ r)) (pairs-of (o + length b) bs)
+
+module _ (r : Ran) where
+  abbrev stop : List ℕ
+  stop = stopBody (r .stop)
+
+  abbrev counts : List ℕ
+  counts = countsBody (r .entered) (r .recorded)
+
+  abbrev steps : List ℕ
+  steps = stepsBody (r .steps)
+
+  abbrev variables : List ℕ
+  variables = variablesBody (r .variables)
+
+  abbrev memory : List ℕ
+  memory = memoryBody (r .memory)
+
+  abbrev questions : List ℕ
+  questions = questionsBody (r .questions)
+
+  pub pairs-are : (l : Lengths) → l .steps ≡ length steps → l .variables ≡ length variables → l .memory ≡ length memory → l .questions ≡ length questions
+      → pairsOf 48 (lengthsOf l) ≡ pairs 48 (bodies r)
+  pairs-are l a b c d =
+      let e = length-stop (r .stop) in
+      let f = length-counts (r .entered) (r .recorded) in
+      sym (λ i. pairsOf 48 (e i ∷ f i ∷ sym a i ∷ sym b i ∷ sym c i ∷ sym d i ∷ [])) ∙ pairs-of 48 (bodies r)
+
+  record-is : recordBytes r ≡ pairs 48 (bodies r) ++ (stop ++ (counts ++ (steps ++ (variables ++ (memory ++ questions)))))
+  unfolding recordBytes layout
+  record-is = ap (λ (q : List ℕ). pairs 48 (bodies r) ++ (stop ++ (counts ++ (steps ++ (variables ++ (memory ++ q)))))) (append-nil questions)
+
+  pub length-record : length (recordBytes r) ≡ 99 + length steps + length variables + length memory + length questions
+  length-record =
+      ap length record-is
+      ∙ simp length-append (omega (arith, length-stop (r .stop), length-counts (r .entered) (r .recorded)))
+
+  module _ (v m q : ℕ) (hv : v ≡ 99 + length steps) (hm : m ≡ v + length variables) (hq : q ≡ m + length memory) (old : List ℕ) where
+    abbrev head : List ℕ
+    head = pairs 48 (bodies r)
+
+    length-head : length head ≡ 48
+    length-head = refl
+
+    -- in the order of the run
+    abbrev inOrder : List ℕ
+    inOrder = sets (sets (sets (sets (sets (sets (sets old 99 steps) q questions) 48 stop) 87 counts) v variables) m memory) 0 head
+
+    -- back to back
+    abbrev inRow : List ℕ
+    inRow = sets (sets (sets (sets (sets (sets (sets old 0 head) 48 stop) 87 counts) 99 steps) v variables) m memory) q questions
+
+    sorted : inOrder ≡ inRow
+    sorted =
+        let ls = length-stop (r .stop) in
+        let lc = length-counts (r .entered) (r .recorded) in
+        let l₁ = sets old 0 head in
+        let l₃ = sets (sets l₁ 48 stop) 87 counts in
+        below-first ((99, steps) ∷ (q, questions) ∷ (48, stop) ∷ (87, counts) ∷ (v, variables) ∷ (m, memory) ∷ []) 0 head old (omega arith, (omega arith, (omega arith, (omega arith, (omega arith, (omega arith, tt))))))
+        ∙ ap (λ (t : List ℕ). sets (sets (sets t 87 counts) v variables) m memory) (below-first ((99, steps) ∷ (q, questions) ∷ []) 48 stop l₁ (omega arith, (omega arith, tt)))
+        ∙ ap (λ (t : List ℕ). sets (sets t v variables) m memory) (below-first ((99, steps) ∷ (q, questions) ∷ []) 87 counts (sets l₁ 48 stop) (omega arith, (omega arith, tt)))
+        ∙ ap (λ (t : List ℕ). sets t m memory) (below-first ((q, questions) ∷ []) v variables (sets l₃ 99 steps) (omega arith, tt))
+        ∙ below-first ((q, questions) ∷ []) m memory (sets (sets l₃ 99 steps) v variables) (omega arith, tt)
+
+    joined : inRow ≡ sets old 0 (recordBytes r)
+    joined =
+        let ls = length-stop (r .stop) in
+        let lc = length-counts (r .entered) (r .recorded) in
+        let l₁ = sets old 0 head in
+        let l₂ = sets l₁ 48 stop in
+        let l₃ = sets l₂ 87 counts in
+        let l₄ = sets l₃ 99 steps in
+        let l₅ = sets l₄ v variables in
+        two-stored head (stop ++ (counts ++ (steps ++ (variables ++ (memory ++ questions))))) old l₁ inRow 0 48 refl
+        (two-stored stop (counts ++ (steps ++ (variables ++ (memory ++ questions)))) l₁ l₂ inRow 48 87 refl
+        (two-stored counts (steps ++ (variables ++ (memory ++ questions))) l₂ l₃ inRow 87 99 refl
+        (two-stored steps (variables ++ (memory ++ questions)) l₃ l₄ inRow 99 v refl
+        (two-stored variables (memory ++ questions) l₄ l₅ inRow v m refl
+        (two-stored memory questions l₅ (sets l₅ m memory) inRow m q refl refl hq) hm) hv) (omega arith)) (omega arith)) refl
+        ∙ ap (sets old 0) (sym record-is)
+
+    -- steps and questions by their streams, then the bodies that are written at once, then the pairs: the record, and then the old bytes
+    pub record-written : length (recordBytes r) ≤ length old → {s₁ s₂ s₃ s₄ s₅ s₆ s₇ : List ℕ} → s₁ ≡ sets old 99 steps → s₂ ≡ sets s₁ q questions
+        → s₃ ≡ sets s₂ 48 stop → s₄ ≡ sets s₃ 87 counts → s₅ ≡ sets s₄ v variables → s₆ ≡ sets s₅ m memory → s₇ ≡ sets s₆ 0 (pairs 48 (bodies r))
+        → s₇ ≡ recordBytes r ++ drop (length (recordBytes r)) old
+    record-written h e₁ e₂ e₃ e₄ e₅ e₆ e₇ =
+        let f₂ = e₂ ∙ ap (λ (t : List ℕ). sets t q questions) e₁ in
+        let f₃ = e₃ ∙ ap (λ (t : List ℕ). sets t 48 stop) f₂ in
+        let f₄ = e₄ ∙ ap (λ (t : List ℕ). sets t 87 counts) f₃ in
+        let f₅ = e₅ ∙ ap (λ (t : List ℕ). sets t v variables) f₄ in
+        let f₆ = e₆ ∙ ap (λ (t : List ℕ). sets t m memory) f₅ in
+        e₇ ∙ ap (λ (t : List ℕ). sets t 0 head) f₆ ∙ sorted ∙ joined ∙ sets-eq (recordBytes r) old 0 (omega arith) ∙ rw zero-add

@@ -1,0 +1,141 @@
+-- The bytes of a step: their groups, the taken names, their length, and that the body grows by them. Assumes nothing.
+use mathlib.Core.Path.{_≡_, refl, sym, ap, ap₂, _∙_}
+use mathlib.Core.Bool.{Bool, true, false, cond}
+use mathlib.Core.List.{List, [], _∷_, _++_}
+use mathlib.Core.Option.{Option}
+use Prim.Native.Nat.{ℕ, zero, suc, _+_, _-_, _*_, _≤_, _<_}
+use native.Mathlib.Omega.{arith}
+use lib.ListN.{length, take, drop, getD, length-drop}
+use lib.Seq.{sets, length-take-le, take-take, take-add}
+use mir.Val.{boolByte}
+use Rattle.value.specs.declared.Val.{Val}
+use Rattle.layout.specs.Each.{Bytes}
+use Rattle.layout.specs.Number.{le, putNumber}
+use Rattle.layout.specs.Format.{number, writes, reads}
+use Rattle.layout.proofs.NumberLaws.{le-num}
+use Rattle.layout.proofs.StoreLaws.{each-take, each-drop, each-byte}
+use Rattle.definition.specs.Act.{Step}
+use Rattle.definition.specs.Fields.{noVal, flagAndNumber}
+use Rattle.definition.specs.Record.{wroteFields, stepFields, stepFormat, stepsBody}
+use Rattle.stream.specs.declared.StepPiece.{StepPiece}
+use Rattle.stream.specs.Pieces.{valueBytes, optional, stepBytes, noteFrom, stepFrom, takenCount, takenNames}
+use Rattle.stream.specs.Groups.{flaggedBytes, placeBytes, wroteBytes, noteBytes, namesBytes}
+use Rattle.stream.specs.Stream.{placed, advanced, Counted, Streamed}
+use Rattle.stream.proofs.StreamLaws.{writes-more, streamed-more, counted-more}
+use Rattle.stream.proofs.StoreLaws.{two-stored}
+
+-- ---- its groups
+
+pub place-stored : (s t u w : List ℕ) (at block statement : ℕ) (o : Option ℕ) → t ≡ sets s at (flaggedBytes o) → u ≡ putNumber t (at + 9) 4 block
+    → w ≡ putNumber u (at + 13) 4 statement → w ≡ sets s at (placeBytes o block statement)
+unfolding putNumber flaggedBytes placeBytes
+place-stored s t u w at block statement o p q r =
+    two-stored (flaggedBytes o ++ le 4 block) (le 4 statement) s u w at (at + 13) (two-stored (flaggedBytes o) (le 4 block) s t u at (at + 9) p q refl) r refl
+
+wrote-bytes : (wrote : Bool) (name : ℕ) (v : Val) → le 1 (boolByte wrote) ++ le 2 (flagAndNumber (optional wrote name) .1) ++ valueBytes (cond wrote v noVal)
+    ≡ wroteBytes (wroteFields (optional wrote (name, v)))
+unfolding valueBytes wroteBytes
+wrote-bytes true name v = refl
+wrote-bytes false name v = refl
+
+pub wrote-stored : (s t u w : List ℕ) (at : ℕ) (wrote : Bool) (name n : ℕ) (v x : Val) → n ≡ flagAndNumber (optional wrote name) .1 → x ≡ cond wrote v noVal
+    → t ≡ putNumber s at 1 (boolByte wrote) → u ≡ putNumber t (at + 1) 2 n → w ≡ sets u (at + 3) (valueBytes x)
+    → w ≡ sets s at (wroteBytes (wroteFields (optional wrote (name, v))))
+unfolding putNumber
+wrote-stored s t u w at wrote name n v x e f p q r =
+    two-stored (le 1 (boolByte wrote) ++ le 2 n) (valueBytes x) s u w at (at + 3) (two-stored (le 1 (boolByte wrote)) (le 2 n) s t u at (at + 1) p q refl) r refl
+    ∙ ap₂ (λ (m : ℕ) (y : Val). sets s at (le 1 (boolByte wrote) ++ le 2 m ++ valueBytes y)) e f
+    ∙ ap (sets s at) (wrote-bytes wrote name v)
+
+pub note-stored : (s t u w x : List ℕ) (at note place count : ℕ) (v : Val) → t ≡ putNumber s at 1 note → u ≡ putNumber t (at + 1) 8 place
+    → w ≡ putNumber u (at + 9) 4 count → x ≡ sets w (at + 13) (valueBytes v) → x ≡ sets s at (noteBytes note place count v)
+unfolding putNumber noteBytes valueBytes
+note-stored s t u w x at note place count v p q r e =
+    two-stored (le 1 note ++ le 8 place ++ le 4 count) (valueBytes v) s w x at (at + 13)
+    (two-stored (le 1 note ++ le 8 place) (le 4 count) s u w at (at + 9) (two-stored (le 1 note) (le 8 place) s t u at (at + 1) p q refl) r refl) e refl
+
+pub names-stored : (s t u names : List ℕ) (at count : ℕ) → 2 + 2 * count ≤ length names → t ≡ putNumber s at 2 count
+    → u ≡ sets t (at + 2) (take (2 * count) (take (length names - 2) (drop 2 names))) → u ≡ sets s at (namesBytes count names)
+unfolding putNumber namesBytes
+names-stored s t u names at count h p q =
+    two-stored (le 2 count) (take (2 * count) (take (length names - 2) (drop 2 names))) s t u at (at + 2) p q refl
+    ∙ ap (λ (l : List ℕ). sets s at (le 2 count ++ l)) (take-take (2 * count) (length names - 2) (drop 2 names) (omega arith))
+
+-- ---- the taken names
+
+-- so many names read from bytes are those bytes when written again
+names-again : (k : ℕ) (bs : List ℕ) → Bytes bs → 2 * k ≤ length bs → writes (number 2) (reads (number 2) k bs .0) ≡ take (2 * k) bs
+names-again zero bs all h = refl
+names-again (suc k) bs all h =
+    let e : 2 * suc k ≡ 2 + 2 * k = omega arith in
+    let l : length (take 2 bs) ≡ 2 = length-take-le 2 bs (omega arith) in
+    ap₂ (λ (xs ys : List ℕ). xs ++ ys) (le-num 2 (take 2 bs) l (each-take 2 bs all)) (names-again k (drop 2 bs) (each-drop 2 bs all) (rw length-drop (omega arith)))
+    ∙ sym (take-add 2 (2 * k) bs)
+    ∙ ap (λ (n : ℕ). take n bs) (sym e)
+
+reads-count : (k : ℕ) (bs : List ℕ) → length (reads (number 2) k bs .0) ≡ k
+reads-count zero bs = refl
+reads-count (suc k) bs = ap suc (reads-count k (drop 2 bs))
+
+pub length-taken : (taken : Bool) (names : List ℕ) → length (takenNames taken names) ≡ takenCount taken names
+unfolding takenNames
+length-taken taken names = reads-count (takenCount taken names) (drop 2 names)
+
+length-names : (xs : List ℕ) → length (writes (number 2) xs) ≡ 2 * length xs
+length-names [] = refl
+length-names (x ∷ xs) = omega (arith, length-names xs)
+
+names-bytes : (taken : Bool) (count : ℕ) (names : List ℕ) → Bytes names → 2 + 2 * count ≤ length names → count ≡ takenCount taken names
+    → namesBytes count names ≡ le 2 (length (takenNames taken names)) ++ writes (number 2) (takenNames taken names)
+unfolding namesBytes takenNames
+names-bytes taken count names all h e =
+    ap₂ (λ (n : ℕ) (l : List ℕ). le 2 n ++ l) (sym (reads-count count (drop 2 names))) (sym (names-again count (drop 2 names) (each-drop 2 names all) (rw length-drop (omega arith))))
+    ∙ ap (λ (k : ℕ). le 2 (length (reads (number 2) k (drop 2 names) .0)) ++ writes (number 2) (reads (number 2) k (drop 2 names) .0)) e
+
+-- ---- the step
+
+module _ (p : StepPiece) (names : List ℕ) where
+  abbrev fixed : List ℕ
+  fixed =
+      placeBytes (optional (p .located) (p .address)) (p .block) (p .statement)
+      ++ wroteBytes (wroteFields (optional (p .wrote) (p .name, p .value)))
+      ++ noteBytes (p .note .kind) (p .note .address) (p .note .count) (p .note .value)
+
+  step-bytes : fixed ++ (le 2 (length (takenNames (p .note .taken) names)) ++ writes (number 2) (takenNames (p .note .taken) names)) ≡ stepBytes (stepFrom p names)
+  unfolding placeBytes wroteBytes noteBytes stepBytes noteFrom stepFrom
+  step-bytes = refl
+
+  pub step-stored : (s t u w x : List ℕ) (at count : ℕ) → count ≡ takenCount (p .note .taken) names → 2 + 2 * count ≤ length names → ((i : ℕ) → getD names i 0 < 256)
+      → t ≡ sets s at (placeBytes (optional (p .located) (p .address)) (p .block) (p .statement))
+      → u ≡ sets t (at + 17) (wroteBytes (wroteFields (optional (p .wrote) (p .name, p .value))))
+      → w ≡ sets u (at + 34) (noteBytes (p .note .kind) (p .note .address) (p .note .count) (p .note .value))
+      → x ≡ sets w (at + 61) (namesBytes count names)
+      → x ≡ sets s at (stepBytes (stepFrom p names))
+  unfolding placeBytes wroteBytes noteBytes
+  step-stored s t u w x at count e h all a b c d =
+      let place = placeBytes (optional (p .located) (p .address)) (p .block) (p .statement) in
+      let wrote = wroteBytes (wroteFields (optional (p .wrote) (p .name, p .value))) in
+      let note = noteBytes (p .note .kind) (p .note .address) (p .note .count) (p .note .value) in
+      two-stored (place ++ wrote ++ note) (namesBytes count names) s w x at (at + 61)
+      (two-stored (place ++ wrote) note s u w at (at + 34) (two-stored place wrote s t u at (at + 17) a b refl) c refl) d refl
+      ∙ ap (λ (l : List ℕ). sets s at (fixed ++ l)) (names-bytes (p .note .taken) count names (each-byte names all) h e)
+      ∙ ap (sets s at) step-bytes
+
+  pub length-step : (count : ℕ) → count ≡ takenCount (p .note .taken) names → length (stepBytes (stepFrom p names)) ≡ 63 + 2 * count
+  unfolding stepBytes noteFrom stepFrom takenNames
+  length-step count e =
+      omega (arith, length-names (takenNames (p .note .taken) names), reads-count (takenCount (p .note .taken) names) (drop 2 names))
+
+-- ---- the body
+
+-- one step more
+pub steps-more : (ss : List Step) (s : Step) → stepsBody (ss ++ s ∷ []) ≡ stepsBody ss ++ stepBytes (stepFields s)
+unfolding stepsBody stepBytes
+steps-more ss s = writes-more stepFormat stepFields ss s
+
+pub steps-streamed : {old out : List ℕ} {at : ℕ} (ss : List Step) (s : Step) → Streamed old out at (stepsBody ss)
+    → Streamed old (placed true out at (stepBytes (stepFields s))) (advanced at (length (stepBytes (stepFields s)))) (stepsBody (ss ++ s ∷ []))
+steps-streamed ss s t = rw (steps-more ss s) (streamed-more (stepBytes (stepFields s)) t)
+
+pub steps-counted : {at : ℕ} (ss : List Step) (s : Step) → Counted at (stepsBody ss) → Counted (advanced at (length (stepBytes (stepFields s)))) (stepsBody (ss ++ s ∷ []))
+steps-counted ss s c = rw (steps-more ss s) (counted-more (stepBytes (stepFields s)) c)

@@ -1,0 +1,4 @@
+pub mod Stream
+pub mod Pieces
+pub mod Groups
+pub mod Bodies

@@ -1,0 +1,85 @@
+-- A workspace that is zero throughout: nothing is set, stored, noted or declared. Assumes nothing.
+use mathlib.Core.Path.{_≡_, refl, sym, ap, _∙_, subst}
+use mathlib.Core.List.{List, [], _∷_}
+use mathlib.Core.Option.{none}
+use Prim.Native.Nat.{ℕ, zero, suc, _*_, _≤_}
+use native.Mathlib.Omega.{arith}
+use lib.ListN.{length, take, drop, replicate, length-replicate}
+use lib.Seq.{length-take-le}
+use Rattle.layout.specs.Each.{Each}
+use Rattle.layout.specs.Number.{num, numberAt}
+use Rattle.memory.specs.Entries.{Sorted, entries, rowOf, first}
+use Rattle.workspace.specs.Parts.{part, workspaceSize, memorySize, framePlace, frameSize, notePlace, noteSize, tablesPlace, declaredSize, memoryPart, framePart, notePart, tables, declaredPart}
+use Rattle.workspace.specs.Variables.{slotSize, nameLimit, slotAt, variablesIn}
+use Rattle.workspace.specs.Note.{pendingIn}
+use Rattle.workspace.specs.Types.{declaredAt}
+use Rattle.workspace.specs.View.{view}
+use Rattle.workspace.specs.Post.{Cleared}
+use Rattle.workspace.proofs.VariableLaws.{those-none}
+use Rattle.workspace.proofs.CodeLaws.{no-code}
+
+abbrev Zeros : List ℕ → Type 0
+Zeros s = Each (λ b. b ≡ 0) s
+
+zeros-replicate : (n : ℕ) → Zeros (replicate n 0)
+zeros-replicate zero = tt
+zeros-replicate (suc n) = (refl, zeros-replicate n)
+
+zeros-take : (n : ℕ) (s : List ℕ) → Zeros s → Zeros (take n s)
+zeros-take zero s z = tt
+zeros-take (suc n) [] z = tt
+zeros-take (suc n) (b ∷ s) z = (z .0, zeros-take n s (z .1))
+
+zeros-drop : (n : ℕ) (s : List ℕ) → Zeros s → Zeros (drop n s)
+zeros-drop zero s z = z
+zeros-drop (suc n) [] z = tt
+zeros-drop (suc n) (b ∷ s) z = zeros-drop n s (z .1)
+
+zeros-num : (s : List ℕ) → Zeros s → num s ≡ 0
+zeros-num [] z = refl
+zeros-num (b ∷ s) z = omega (arith, z .0, zeros-num s (z .1))
+
+zeros-number : (s : List ℕ) (i k : ℕ) → Zeros s → numberAt s i k ≡ 0
+unfolding numberAt
+zeros-number s i k z = zeros-num (part i k s) (zeros-take k (drop i s) (zeros-drop i s z))
+
+slot-none : (f : List ℕ) (x : ℕ) → Zeros f → slotAt f x ≡ none
+unfolding slotAt
+slot-none f x z = rw (zeros-number f (x * slotSize) 1 z, slotAt)
+
+variables-none : (f : List ℕ) → Zeros f → variablesIn f ≡ []
+unfolding variablesIn
+variables-none f z = those-none (slotAt f) 0 nameLimit (λ x. slot-none f x z)
+
+pending-none : (p : List ℕ) → Zeros p → pendingIn p ≡ none
+unfolding pendingIn
+pending-none p z = rw (zeros-number p 0 1 z, pendingIn)
+
+declared-none : (t : List ℕ) (x : ℕ) → Zeros t → declaredAt t x ≡ none
+unfolding declaredAt declaredPart
+declared-none t x z = no-code (numberAt (declaredPart t) x 1) (zeros-number (declaredPart t) x 1 (zeros-take declaredSize t z))
+
+entries-none : (s : List ℕ) → entries s 0 ≡ []
+unfolding entries rowOf
+entries-none s = refl
+
+sorted-none : (s : List ℕ) → memorySize ≤ length s → Sorted s 0
+unfolding first
+sorted-none s h = record { room = h; placed = omega arith; ascending = rw (entries-none s) tt }
+
+zeros-cleared : (w : List ℕ) → workspaceSize ≤ length w → Zeros w → Cleared w
+unfolding view memoryPart framePart notePart tables
+zeros-cleared w room z =
+    let f : variablesIn (framePart w) ≡ [] = variables-none (framePart w) (zeros-take frameSize (drop framePlace w) (zeros-drop framePlace w z)) in
+    let p : pendingIn (notePart w) ≡ none = pending-none (notePart w) (zeros-take noteSize (drop notePlace w) (zeros-drop notePlace w z)) in
+    let l : length (memoryPart w) ≡ memorySize = length-take-le memorySize w (omega arith) in
+    record {
+      holds = rw (f, p, entries-none (memoryPart w));
+      fit = record { room = room; sorted = sorted-none (memoryPart w) (omega (arith, l)); few = rw p (omega arith) };
+      declared = λ x. declared-none (tables w) x (zeros-drop tablesPlace w z);
+    }
+
+pub cleared : (w w′ : List ℕ) → workspaceSize ≤ length w → w′ ≡ replicate (length w) 0 → Cleared w′
+cleared w w′ room e =
+    let l : length w′ ≡ length w = ap length e ∙ length-replicate (length w) 0 in
+    zeros-cleared w′ (omega arith) (subst Zeros (sym e) (zeros-replicate (length w)))

@@ -1,0 +1,145 @@
+-- The codes of types: each type that a spelling names has one, from which it is read again. Assumes nothing.
+use mathlib.Core.Path.{_≡_, refl, sym, ap, _∙_, subst}
+use mathlib.Core.Bool.{Bool, true, false, cond, not}
+use mathlib.Core.List.{List, [], _∷_}
+use mathlib.Core.Option.{Option, none, some}
+use Prim.Native.Nat.{ℕ, zero, suc, _+_, _*_, _/_, _%_, _≤_, _<_}
+use native.Mathlib.Omega.{arith}
+use mir.Val.{boolByte}
+use lib.Dec.{eqb}
+use Rattle.layout.specs.Format.{flagOf, boolOf}
+use Rattle.value.specs.declared.Ty.{Ty}
+use Rattle.value.specs.declared.spelling.Pointee.{Pointee}
+use Rattle.value.specs.declared.spelling.Pointee.the-variants.{Of, NoPointer}
+use Rattle.value.specs.Value.{type}
+use Rattle.value.specs.Spelling.{is, isBool, isWideSigned, isWideUnsigned, isShortInt, signedWord, unsignedWord, alone, two, named, anyUnsigned, pieces, baseOf, endsStar, beforeStar, typeOf, pointeeOf}
+use Rattle.workspace.specs.Types.{codeOf, typeOfCode, codeIf, typeIfCode, Coded, CodedIf}
+use Rattle.workspace.specs.Post.{pointedAt}
+use Rattle.workspace.proofs.ValueLaws.{flag-read, flag-written}
+
+-- ---- a code and its type
+
+flag-most : (b : Bool) → flagOf b ≤ 1
+flag-most true = omega arith
+flag-most false = omega arith
+
+sign-back : (b : Bool) → boolOf (flagOf b) ≡ b
+sign-back true = refl
+sign-back false = refl
+
+pub byte-most : (b : Bool) → boolByte b ≤ 1
+byte-most b = omega (arith, flag-written b, flag-most b)
+
+pub code-small : (t : Ty) → Coded t → codeOf t < 256
+unfolding codeOf
+code-small t h = omega (arith, flag-most (t .signed), h .most)
+
+code-some : (t : Ty) → Coded t → 0 < codeOf t
+unfolding codeOf
+code-some t h = omega (arith, h .whole, h .some)
+
+pub code-back : (t : Ty) → Coded t → typeOfCode (codeOf t) ≡ t
+unfolding codeOf typeOfCode
+code-back t h =
+    let f = flag-most (t .signed) in
+    let b : (t .bits / 8 * 2 + flagOf (t .signed)) / 2 * 8 ≡ t .bits = omega (arith, f, h .whole) in
+    let s : (t .bits / 8 * 2 + flagOf (t .signed)) % 2 ≡ flagOf (t .signed) = omega (arith, f) in
+    λ i. record { bits = b i; signed = _∙_ (ap boolOf s) (sign-back (t .signed)) i }
+
+pub some-code : (c : ℕ) → (c ≡ 0 → ⊥) → typeIfCode c ≡ some (typeOfCode c)
+unfolding typeIfCode
+some-code zero h = absurd (h refl)
+some-code (suc c) h = refl
+
+pub no-code : (c : ℕ) → c ≡ 0 → typeIfCode c ≡ none
+unfolding typeIfCode
+no-code c h = ap typeIfCode h
+
+pub if-small : (o : Option Ty) → CodedIf o → codeIf o < 256
+unfolding codeIf
+if-small none h = omega arith
+if-small (some t) h = code-small t h
+
+pub if-back : (o : Option Ty) → CodedIf o → typeIfCode (codeIf o) ≡ o
+unfolding codeIf
+if-back none h = no-code 0 refl
+if-back (some t) h = some-code (codeOf t) (λ e. omega (arith, e, code-some t h)) ∙ ap some (code-back t h)
+
+-- ---- computed
+
+pub code-made : (t : Ty) → t .bits / 8 * 2 + boolByte (t .signed) ≡ codeOf t
+unfolding codeOf
+code-made t = ap (λ (n : ℕ). t .bits / 8 * 2 + n) (flag-written (t .signed))
+
+pub type-made : (c : ℕ) → _≡_ {A = Ty} (record { bits = c / 2 * 8; signed = not (eqb (c % 2) 0) }) (typeOfCode c)
+unfolding typeOfCode
+type-made c = λ i. record { bits = c / 2 * 8; signed = flag-read (c % 2) i }
+
+-- what a pointer points at
+
+pub pointed-coded : (p : Pointee) (t : Ty) → p ≡ Of t → CodedIf (pointedAt p) → Coded t
+pointed-coded p t e h = subst (λ (q : Pointee). CodedIf (pointedAt q)) e h
+
+pub pointed-code : (p : Pointee) (t : Ty) (c : ℕ) → p ≡ Of t → c ≡ codeOf t → c ≡ codeIf (pointedAt p)
+unfolding codeIf
+pointed-code p t c e k = k ∙ sym (ap (λ (q : Pointee). codeIf (pointedAt q)) e)
+
+pub unpointed-code : (p : Pointee) → p ≡ NoPointer → 0 ≡ codeIf (pointedAt p)
+unfolding codeIf
+unpointed-code p e = sym (ap (λ (q : Pointee). codeIf (pointedAt q)) e)
+
+-- ---- each type that a spelling names has a code
+
+coded : (n : ℕ) (s : Bool) → (8 * n) % 8 ≡ 0 → 0 < 8 * n → 8 * n ≤ 64 → Coded (type (8 * n) s)
+coded n s w p m = record { whole = w; some = p; most = m }
+
+coded-8 : (s : Bool) → Coded (type 8 s)
+coded-8 s = coded 1 s refl (omega arith) (omega arith)
+
+coded-16 : (s : Bool) → Coded (type 16 s)
+coded-16 s = coded 2 s refl (omega arith) (omega arith)
+
+coded-32 : (s : Bool) → Coded (type 32 s)
+coded-32 s = coded 4 s refl (omega arith) (omega arith)
+
+coded-64 : (s : Bool) → Coded (type 64 s)
+coded-64 s = coded 8 s refl (omega arith) (omega arith)
+
+either : (b : Bool) {t u : Ty} → Coded t → Coded u → Coded (cond b t u)
+either true h k = h
+either false h k = k
+
+word-coded : (u : Bool) (w : List ℕ) → Coded (alone u w)
+unfolding alone unsignedWord signedWord
+word-coded u w =
+    either (isBool w) (coded-8 false)
+    (either (is w "char") (coded-8 (not u))
+    (either (is w "short") (coded-16 (not u))
+    (either (is w "int") (coded-32 (not u))
+    (either (is w "uint8_t") (coded-8 false)
+    (either (is w "uint16_t") (coded-16 false)
+    (either (is w "uint32_t") (coded-32 false)
+    (either (isWideUnsigned w) (coded-64 false)
+    (either (is w "int8_t") (coded-8 true)
+    (either (is w "int16_t") (coded-16 true)
+    (either (is w "int32_t") (coded-32 true)
+    (either (isWideSigned w) (coded-64 true)
+    (coded-64 (not u)))))))))))))
+
+named-coded : (u : Bool) (ws : List (List ℕ)) → Coded (named u ws)
+unfolding two
+named-coded u [] = coded-32 (not u)
+named-coded u (w ∷ []) = word-coded u w
+named-coded u (v ∷ w ∷ []) = either (isShortInt v w) (coded-16 (not u)) (coded-64 (not u))
+named-coded u (v ∷ w ∷ x ∷ ws) = coded-64 (not u)
+
+pub typeOf-coded : (s : List ℕ) → Coded (typeOf s)
+unfolding typeOf
+typeOf-coded s = either (endsStar s) (coded-64 false) (named-coded (anyUnsigned (pieces s)) (baseOf (pieces s)))
+
+pub pointeeOf-coded : (s : List ℕ) → CodedIf (pointedAt (pointeeOf s))
+pointeeOf-coded s = go (endsStar s)
+  where
+    go : (b : Bool) → CodedIf (pointedAt (cond b (Of (typeOf (beforeStar s))) NoPointer))
+    go true = typeOf-coded (beforeStar s)
+    go false = tt

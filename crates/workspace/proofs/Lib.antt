@@ -1,0 +1,12 @@
+pub mod PartLaws
+pub mod ValueLaws
+pub mod VariableLaws
+pub mod FrameLaws
+pub mod ViewLaws
+pub mod NoteLaws
+pub mod CodeLaws
+pub mod TableLaws
+pub mod CopyLaws
+pub mod ClearLaws
+pub mod MemoryLaws
+pub mod LendLaws

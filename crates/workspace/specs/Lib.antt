@@ -1,0 +1,7 @@
+pub mod Parts
+pub mod Values
+pub mod Variables
+pub mod Note
+pub mod Types
+pub mod View
+pub mod Post

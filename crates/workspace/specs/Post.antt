@@ -1,0 +1,102 @@
+-- What the functions on a workspace give and ensure.
+use mathlib.Core.Path.{_≡_}
+use mathlib.Core.List.{List}
+use mathlib.Core.Option.{Option, none, some}
+use Prim.Native.Nat.{ℕ, _+_, _*_, _<_}
+use lib.ListN.{length}
+use lib.Seq.{sets}
+use Rattle.value.specs.declared.Val.{Val}
+use Rattle.value.specs.declared.Ty.{Ty}
+use Rattle.value.specs.declared.spelling.Pointee.{Pointee}
+use Rattle.value.specs.declared.spelling.Pointee.the-variants.{Of, NoPointer}
+use Rattle.memory.specs.Overlay.{Overlay, Cell, stores}
+use Rattle.memory.specs.Entries.{limit}
+use Rattle.memory.specs.declared.Stored.{Stored}
+use Rattle.memory.specs.declared.Stored.the-variants.{Count, Full}
+use Rattle.workspace.specs.declared.variables.Slot.{Slot}
+use Rattle.workspace.specs.declared.variables.Slot.the-variants.{Set, Unset}
+use Rattle.workspace.specs.declared.types.Declaration.{Declaration}
+use Rattle.workspace.specs.declared.types.Declaration.the-variants.{As, Nothing}
+use Rattle.workspace.specs.Parts.{tables, symbolsPart, regionsPart, blocksPart}
+use Rattle.workspace.specs.Variables.{variableSize, variablesBody}
+use Rattle.workspace.specs.Types.{declaredAt, typeAt, pointeeAt}
+use Rattle.workspace.specs.View.{view, fresh, Fit, Does, storing}
+
+abbrev pub slotAs : Option Val → Slot
+slotAs none = Unset
+slotAs (some v) = Set v
+
+abbrev pub declarationAs : Option Ty → Declaration
+declarationAs none = Nothing
+declarationAs (some t) = As t
+
+abbrev pub pointeeAs : Option Ty → Pointee
+pointeeAs none = NoPointer
+pointeeAs (some t) = Of t
+
+abbrev pub pointedAt : Pointee → Option Ty
+pointedAt NoPointer = none
+pointedAt (Of t) = some t
+
+-- variables put in a record's bytes at a place of out, which became out′, and the next place
+pub record PutsVariables (m : Overlay Val) (out : List ℕ) (at : ℕ) (out′ : List ℕ) (next : ℕ) : Type 0 where
+  pub bytes : out′ ≡ sets out at (variablesBody m)
+  pub place : next ≡ at + length m * variableSize
+
+-- cells stored from an address on; or they would be too many entries, and of the workspace only its size is known
+abbrev pub StoresCells : List ℕ → ℕ → ℕ → List Cell → List ℕ → Stored → Type 0
+StoresCells w n address cells w′ (Count n′) = Does w n (storing address cells) w′ n′
+StoresCells w n address cells w′ Full = (limit < length (stores address cells (view w n .memory))) × (length w′ ≡ length w)
+
+-- ---- the tables
+
+-- what changes as a routine runs is as it was
+pub record Kept (w w′ : List ℕ) : Type 0 where
+  pub holds : (stored : ℕ) → view w′ stored ≡ view w stored
+  pub fit : (stored : ℕ) → Fit w stored → Fit w′ stored
+  pub size : length w′ ≡ length w
+
+-- the indexes of two tables are the same
+pub record SameIndexes (t t′ : List ℕ) : Type 0 where
+  pub symbols : symbolsPart t′ ≡ symbolsPart t
+  pub regions : regionsPart t′ ≡ regionsPart t
+  pub blocks : blocksPart t′ ≡ blocksPart t
+
+-- the types in two tables are the same
+pub record SameTypes (t t′ : List ℕ) : Type 0 where
+  pub declared : (x : ℕ) → declaredAt t′ x ≡ declaredAt t x
+  pub types : (i : ℕ) → typeAt t′ i ≡ typeAt t i
+  pub pointees : (i : ℕ) → pointeeAt t′ i ≡ pointeeAt t i
+
+-- the name x is declared with a type, and nothing else is changed
+pub record Declares (w : List ℕ) (x : ℕ) (type : Ty) (w′ : List ℕ) : Type 0 where
+  pub kept : Kept w w′
+  pub here : declaredAt (tables w′) x ≡ some type
+  pub others : (y : ℕ) → (y ≡ x → ⊥) → declaredAt (tables w′) y ≡ declaredAt (tables w) y
+  pub types : (i : ℕ) → typeAt (tables w′) i ≡ typeAt (tables w) i
+  pub pointees : (i : ℕ) → pointeeAt (tables w′) i ≡ pointeeAt (tables w) i
+  pub indexes : SameIndexes (tables w) (tables w′)
+
+-- the type i is put with what it points at, and nothing else is changed
+pub record PutsType (w : List ℕ) (i : ℕ) (type : Ty) (pointee : Option Ty) (w′ : List ℕ) : Type 0 where
+  pub kept : Kept w w′
+  pub here : typeAt (tables w′) i ≡ type
+  pub there : pointeeAt (tables w′) i ≡ pointee
+  pub types : (j : ℕ) → (j ≡ i → ⊥) → typeAt (tables w′) j ≡ typeAt (tables w) j
+  pub pointees : (j : ℕ) → (j ≡ i → ⊥) → pointeeAt (tables w′) j ≡ pointeeAt (tables w) j
+  pub declared : (x : ℕ) → declaredAt (tables w′) x ≡ declaredAt (tables w) x
+  pub indexes : SameIndexes (tables w) (tables w′)
+
+-- the three indexes are x, y and z, and nothing else is changed
+pub record Fills (w x y z w′ : List ℕ) : Type 0 where
+  pub kept : Kept w w′
+  pub same : SameTypes (tables w) (tables w′)
+  pub symbols : symbolsPart (tables w′) ≡ x
+  pub regions : regionsPart (tables w′) ≡ y
+  pub blocks : blocksPart (tables w′) ≡ z
+
+-- a workspace that is zero throughout
+pub record Cleared (w : List ℕ) : Type 0 where
+  pub holds : view w 0 ≡ fresh
+  pub fit : Fit w 0
+  pub declared : (x : ℕ) → declaredAt (tables w) x ≡ none
