@@ -7,7 +7,7 @@ use Rattle.layout.specs.Number.{numberAt}
 use Rattle.value.specs.Operators.{operandsOf, arithmetic, division, bitwise, truth, order, test, shift, binaryOf}
 use Rattle.value.specs.Spelling.{is, dropped, signedWord, unsignedWord, alone, two, typeOf}
 use Rattle.files.specs.Blocks.{statementOk, statementsOk, blockOk, blockAt, blocksIn}
-use Rattle.files.specs.Call.{callBodyOk, limitsIn, limitsOf}
+use Rattle.files.specs.Call.{callBodyOk, limitsOf}
 use Rattle.files.specs.FileTable.{body, startOf, bodyOk, tableOk}
 use Rattle.files.specs.Head.{variableOk, fixedOk, headOk}
 use Rattle.files.specs.Items.{reading, readFrom, every}
@@ -42,7 +42,7 @@ unfolding operandsOf arithmetic division bitwise truth order test shift binaryOf
 value-open = tt
 
 unfoldable pub files-open : Unit {0}
-unfolding statementOk statementsOk blockOk blockAt blocksIn callBodyOk limitsIn limitsOf body startOf bodyOk tableOk variableOk fixedOk headOk reading readFrom every printable before nameAt namesIn typeAt typesIn ruleOf fieldOk fieldsOk treesFrom trees treesOk rootOk treeFrom treeAt listed blocksFrom programOf worldOk callOk bodiesRefusal routineRefusal refusal constantRefusal symbolOf byteAt bytesFrom symbolAddress symbolSize imageBytes leastName symbolsOk regionAt regionsIn
+unfolding statementOk statementsOk blockOk blockAt blocksIn callBodyOk limitsOf body startOf bodyOk tableOk variableOk fixedOk headOk reading readFrom every printable before nameAt namesIn typeAt typesIn ruleOf fieldOk fieldsOk treesFrom trees treesOk rootOk treeFrom treeAt listed blocksFrom programOf worldOk callOk bodiesRefusal routineRefusal refusal constantRefusal symbolOf byteAt bytesFrom symbolAddress symbolSize imageBytes leastName symbolsOk regionAt regionsIn
 files-open = tt
 
 unfoldable pub memory-open : Unit {0}

@@ -51,19 +51,8 @@ pub before-start : (f : List ℕ) → before f 0 ≡ []
 unfolding those
 before-start f = refl
 
-only-most : (f : List ℕ) (x : ℕ) → length (variableAt f x) ≤ 1
-only-most f x = go (slotAt f x)
-  where
-    go : (o : Option Val) → length (entryIf x o []) ≤ 1
-    go none = omega arith
-    go (some v) = omega arith
-
 pub length-next : (f : List ℕ) (x : ℕ) → length (before f (x + 1)) ≡ length (before f x) + length (variableAt f x)
 length-next f x = ap length (before-next f x) ∙ length-append (before f x) (variableAt f x)
-
-pub before-most : (f : List ℕ) (x : ℕ) → length (before f x) ≤ x
-before-most f zero = omega (arith, ap length (before-start f))
-before-most f (suc x) = rw (← add-one) (omega (arith, length-next f x, only-most f x, before-most f x))
 
 -- no fewer with more names
 pub before-grows : (f : List ℕ) (x k : ℕ) → length (before f x) ≤ length (before f (x + k))

@@ -83,10 +83,7 @@ module _ {A : Type 0} where
         past k none = refl
         past k (some a) = elim (first y (x, a) (those slot (suc x) n)) [ less q r f s ↦ absurd (omega arith) | same q r f s ↦ absurd (omega arith) | more q r f s ↦ sym (s b) ]
 
-  -- ---- slots that are the same, all unset, or one more
-
-  pub those-same : (slot slot′ : ℕ → Option A) (x n : ℕ) → ((z : ℕ) → slot′ z ≡ slot z) → those slot′ x n ≡ those slot x n
-  those-same slot slot′ x n e = λ i. those (λ z. e z i) x n
+  -- ---- all unset, or one more
 
   pub those-none : (slot : ℕ → Option A) (x n : ℕ) → ((z : ℕ) → slot z ≡ none) → those slot x n ≡ []
   unfolding those
