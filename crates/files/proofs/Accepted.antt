@@ -18,7 +18,7 @@ use Rattle.files.specs.Head.{headOk}
 use Rattle.files.specs.Nodes.{kindOf, rootOk, fieldsOk, treesOk}
 use Rattle.files.specs.Blocks.{addressOk, statementOk, statementsOk, blockOk, blocksIn}
 use Rattle.files.specs.WorldFile.{symbolsOk, regionsIn}
-use Rattle.files.specs.Call.{callBodyOk, limitsIn, limitsOf}
+use Rattle.files.specs.Call.{callBodyOk, limitsOf}
 use Rattle.files.specs.Refusal.{namesOf, typesOf, worldOk, callOk, first, bodiesRefusal, routineRefusal, orElse, refusal, constantRefusal}
 use Rattle.files.specs.Program.{tree, nodeAt}
 use Rattle.files.specs.Spells.{node-at, Fine, Accepted}

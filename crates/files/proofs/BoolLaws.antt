@@ -33,6 +33,11 @@ said-no t u e h = sym e ∙ not-true t h
 pub said-yes : (t u : Bool) → t ≡ u → not t ≡ false → u ≡ true
 said-yes t u e h = sym e ∙ not-false t h
 
+-- a length that a test let stand
+pub only-there : (t : Bool) (v : ℕ) → (only t v ≡ 0 → ⊥) → (t ≡ true) × (only t v ≡ v)
+only-there true v h = (refl, refl)
+only-there false v h = absurd (h refl)
+
 -- a test as 1 or 0, and back
 pub only-one : (t : Bool) (n : ℕ) → only t 1 ≡ n → t ≡ leb 1 n
 only-one true n e = ap (leb 1) e

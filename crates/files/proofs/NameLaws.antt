@@ -9,10 +9,10 @@ use borrow.Author.Tests.{le-leb, lt-leb, lt-ltb, le-ltb, ltb-true, ltb-false, eq
 use lib.Dec.{leb, ltb}
 use lib.ListN.{length, getD, drop, drop-of-length-le}
 use lib.Seq.{drop-cons}
-use Rattle.files.specs.Bytes.{only, part}
+use Rattle.files.specs.Bytes.{part}
 use Rattle.files.specs.Names.{printable, before, Last, last, nameAt, nameItems, namesIn, typeAt, typeItems, typesIn}
 use Rattle.files.specs.Refusal.{namesOf, typesOf}
-use Rattle.files.proofs.BoolLaws.{each-true}
+use Rattle.files.proofs.BoolLaws.{each-true, only-there}
 use Rattle.files.proofs.ItemLaws.{reading-most}
 
 -- at a place of a loop over the bytes: the answer b is what is left of the text
@@ -117,17 +117,13 @@ module _ (b : List ℕ) (n i k : ℕ) (e : k ≡ getD b i 0) where
 
 -- ---- how many there are
 
-only-some : (t : Bool) (v k : ℕ) → only t v ≡ suc k → t ≡ true
-only-some true v k e = refl
-only-some false v k e = absurd (omega arith)
-
 name-room : (b : List ℕ) (s : Last) (i k : ℕ) → nameAt b s i ≡ suc k → s .count < 512
 unfolding nameAt
 name-room b s i k e =
     let n = getD b i 0 in
     let text = part (i + 1) (i + 1 + n) b in
     let t = ltb (s .count) 512 && leb 1 n && leb n 64 && leb n (length b - (i + 1)) && printable 0x21 0x7e text && before (part (s .from) (s .to) b) text in
-    ltb-true _ _ (each-true (ltb (s .count) 512) (leb 1 n ∷ leb n 64 ∷ leb n (length b - (i + 1)) ∷ printable 0x21 0x7e text ∷ before (part (s .from) (s .to) b) text ∷ []) (only-some t (n + 1) k e) .0)
+    ltb-true _ _ (each-true (ltb (s .count) 512) (leb 1 n ∷ leb n 64 ∷ leb n (length b - (i + 1)) ∷ printable 0x21 0x7e text ∷ before (part (s .from) (s .to) b) text ∷ []) (only-there t (n + 1) (λ z. omega arith) .0) .0)
 
 type-room : (b : List ℕ) (s i k : ℕ) → typeAt b s i ≡ suc k → s < 512
 unfolding typeAt
@@ -135,7 +131,7 @@ type-room b s i k e =
     let n = getD b i 0 in
     let text = part (i + 1) (i + 1 + n) b in
     let t = ltb s 512 && leb n 64 && leb n (length b - (i + 1)) && printable 0x20 0x7e text in
-    ltb-true _ _ (each-true (ltb s 512) (leb n 64 ∷ leb n (length b - (i + 1)) ∷ printable 0x20 0x7e text ∷ []) (only-some t (n + 1) k e) .0)
+    ltb-true _ _ (each-true (ltb s 512) (leb n 64 ∷ leb n (length b - (i + 1)) ∷ printable 0x20 0x7e text ∷ []) (only-there t (n + 1) (λ z. omega arith) .0) .0)
 
 -- "Names, at most 512", and types
 pub names-most : (b : List ℕ) → namesOf b ≤ 512

@@ -1,9 +1,8 @@
 -- Which number the checks of the bodies come to, one after the other. Assumes nothing.
-use mathlib.Core.Path.{_≡_, refl, sym, ap, _∙_}
-use mathlib.Core.Bool.{Bool, true, false, not, cond, _&&_}
+use mathlib.Core.Path.{_≡_, refl, sym, _∙_}
+use mathlib.Core.Bool.{Bool, true, false, not, _&&_}
 use mathlib.Core.List.{List}
 use Prim.Native.Nat.{ℕ, zero, suc, _-_, _/_, _≤_, _<_}
-use native.Mathlib.Omega.{arith}
 use borrow.Author.Tests.{le-leb, lt-leb}
 use lib.Dec.{leb}
 use lib.ListN.{length}
@@ -14,7 +13,7 @@ use Rattle.files.specs.Nodes.{fieldsOk, treesOk, rootOk}
 use Rattle.files.specs.Blocks.{statementsOk, blocksIn}
 use Rattle.files.specs.Refusal.{bodiesRefusal, routineRefusal, orElse, worldOk, callOk, refusal, constantRefusal}
 use Rattle.files.proofs.BoolLaws.{said-no, said-yes}
-use Rattle.files.proofs.TableLaws.{has-body}
+use Rattle.files.proofs.Accepted.{routine-body}
 
 -- n and t are what `names` and `types` gave, h, f, g and s what the next checks did
 module _ (names types head nodes statements blocks : List ℕ) (n : ℕ) (en : n ≡ namesIn names) where
@@ -65,23 +64,11 @@ module _ (r : List ℕ) (t : Bool) (et : t ≡ tableOk 6 r) where
   unfolding routineRefusal
   bodies-refused x names types head nodes statements blocks e₀ e₁ e₂ e₃ e₄ e₅ a ea = ea ∙ simp (said-yes t _ et x, e₀, e₁, e₂, e₃, e₄, e₅)
 
--- a routine that nothing refuses has a table
-pub routine-table : (r : List ℕ) → routineRefusal r ≡ 0 → tableOk 6 r ≡ true
-unfolding routineRefusal
-routine-table r h = go (tableOk 6 r) _ h
-  where
-    go : (t : Bool) (n : ℕ) → cond t n 1 ≡ 0 → t ≡ true
-    go true n e = refl
-    go false n e = absurd (omega arith)
-
 -- ---- what comes after the routine's number
 
 or-some : (m n : ℕ) → (m ≡ 0 → ⊥) → m ≡ orElse m n
 or-some zero n h = absurd (h refl)
 or-some (suc m) n h = refl
-
-or-none : (m n : ℕ) → m ≡ 0 → n ≡ orElse m n
-or-none m n e = sym (ap (λ (x : ℕ). orElse x n) e)
 
 module _ (r : List ℕ) (m : ℕ) (em : m ≡ routineRefusal r) where
   pub run-routine-refused : (w c : List ℕ) → (m ≡ 0 → ⊥) → m ≡ refusal r w c
@@ -94,7 +81,7 @@ module _ (r : List ℕ) (m : ℕ) (em : m ≡ routineRefusal r) where
 
   module _ (z : m ≡ 0) where
     pub accepted-body : (k : ℕ) → k < 6 → HasBody r k
-    accepted-body k l = has-body 6 r (routine-table r (sym em ∙ z)) k l
+    accepted-body = routine-body r (sym em ∙ z)
 
     module _ (w c : List ℕ) (t : Bool) (et : t ≡ worldOk w) where
       pub world-refused : not t ≡ true → 8 ≡ refusal r w c

@@ -9,7 +9,6 @@ use lib.Dec.{leb, ltb}
 use lib.ListN.{length, getD}
 use Rattle.layout.specs.Each.{Each}
 use Rattle.layout.specs.Number.{numberAt}
-use Rattle.files.specs.Bytes.{only}
 use Rattle.files.specs.FileTable.{body}
 use Rattle.files.specs.Items.{readFrom}
 use Rattle.files.specs.Nodes.{rootOk}
@@ -18,7 +17,7 @@ use Rattle.files.specs.Blocks as blocks
 use Rattle.files.specs.Refusal.{routineRefusal}
 use Rattle.files.specs.Program.{Node, Tree, place, treeAt, Statement, Terminator, returns, goto, branch, switch, Block, listed, statementAt, terminatorOf, blockAt, blocksFrom, programOf}
 use Rattle.files.specs.Spells.{At, node-at, Accepted}
-use Rattle.files.proofs.BoolLaws.{each-true}
+use Rattle.files.proofs.BoolLaws.{each-true, only-there}
 use Rattle.files.proofs.ItemLaws.{refused, goes}
 use Rattle.files.proofs.Spelled.{fine-at}
 use Rattle.files.proofs.Accepted.{routine, root-fine, statement-root, block-root}
@@ -46,10 +45,6 @@ module _ {b : List ℕ} {names types : ℕ} (a : Accepted b names types) where
   root-spelt n h = let t = fine-at (root-fine a n h) in subst (λ (x : ℕ). At b x (treeAt b n)) (sym (place-is t)) t
 
 -- ---- a block that the checks pass
-
-only-there : (t : Bool) (v : ℕ) → (only t v ≡ 0 → ⊥) → (t ≡ true) × (only t v ≡ v)
-only-there true v h = (refl, refl)
-only-there false v h = absurd (h refl)
 
 pub record Dealt (nodes b : List ℕ) (left i : ℕ) : Type 0 where
   pub good : blockOk nodes b i ≡ true

@@ -5,7 +5,7 @@ use Prim.Native.Nat.{ℕ, zero, suc, _+_, _-_, _*_, _≤_, _<_}
 use native.Mathlib.Nat.{le-of-suc-le-suc, suc-mul, zero-mul, zero-add, suc-add, add-comm}
 use native.Mathlib.Omega.{arith}
 use lib.ListN.{length, take, drop, getD, length-append, length-drop, take-append-drop}
-use lib.Seq.{take-at, drop-at, take-append-le, drop-append-le, drop-drop, length-take-le, sets, take-add}
+use lib.Seq.{take-at, drop-at, take-append-le, drop-append-le, drop-drop, length-take-le, take-add}
 use Rattle.layout.specs.Each.{Each, Bytes}
 use Rattle.layout.specs.Number.{num}
 use Rattle.layout.specs.Format.{Format, number, pair, writes, reads}
@@ -99,7 +99,3 @@ module _ {A : Type 0} {F : Format A} {k : ℕ} (z : Sized F k) where
     reads-writes [] h t = refl
     reads-writes (e ∷ es) h t =
         rw (append-assoc, f .back e (h .0) (writes F es ++ t)) (ap (λ (l : List A). e ∷ l) (reads-writes es (h .1) t))
-
-    -- the entries from j up to n are moved to come after es, which are written from i on
-    abbrev pub spliced : List ℕ → ℕ → ℕ → ℕ → List A → List ℕ
-    spliced s i j n es = sets (sets s ((i + length es) * k) (take ((n - j) * k) (drop (j * k) s))) (i * k) (writes F es)

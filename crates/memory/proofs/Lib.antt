@@ -1,7 +1,10 @@
 pub mod EntryLaws
 pub mod OverlayLaws
 pub mod RowLaws
+pub mod SearchLaws
 pub mod MoveLaws
 pub mod PartLaws
+pub mod PieceLaws
+pub mod WriteLaws
 pub mod LoadLaws
 pub mod RunLaws

@@ -97,9 +97,6 @@ joined-lt i v b h l = rw pow-suc (omega (arith, mul-le-mul-left (256 ^ i) (le-pr
     le-pred : (b : ℕ) → b < 256 → b ≤ 255
     le-pred b l = omega arith
 
-pub word-lt : (i v : ℕ) → i ≤ 8 → v < 256 ^ i → v < 2 ^ 64
-word-lt i v h l = omega (arith, pow-le-pow-right {n = 256} (lit< tt) h)
-
 -- ---- loading
 
 -- a first byte, and the number of the others

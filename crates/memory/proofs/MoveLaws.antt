@@ -77,35 +77,35 @@ module _ (s : List ℕ) (a b n : ℕ) (fits : b + n ≤ length s) where
   abbrev rest : List ℕ
   rest = midOf a (length s - a) s
 
-  rest-is : a ≤ b → rest ≡ drop a s
-  rest-is h = take-all (length s - a) (drop a s) (omega (arith, length-drop a s))
+  rest-is : rest ≡ drop a s
+  rest-is = take-all (length s - a) (drop a s) (omega (arith, length-drop a s))
+
+  length-rest : length rest ≡ length s - a
+  length-rest = ap length rest-is ∙ length-drop a s
 
   pub slid-up : (t : List ℕ) → a ≤ b → t ≡ sets rest (b - a) (take n rest) → putMid a (length s - a) s t ≡ sets s b (take n (drop a s))
   slid-up t h e =
-      let r : rest ≡ drop a s = rest-is h in
-      let l : length rest ≡ length s - a = ap length r ∙ length-drop a s in
       let k : a + (b - a) ≡ b = omega arith in
       ap (putMid a (length s - a) s) e
-      ∙ put-sets (take n rest) s a (length s - a) (b - a) (omega (arith, l, length-take n rest))
-      ∙ rw (k, r)
+      ∙ put-sets (take n rest) s a (length s - a) (b - a) (omega (arith, length-rest, length-take n rest))
+      ∙ rw (k, rest-is)
 
-module _ (s : List ℕ) (a b n : ℕ) (fits : b + n ≤ length s) where
-  pub slid-down : (t : List ℕ) → a ≤ b → t ≡ sets (midOf a (length s - a) s) 0 (take n (drop (b - a) (midOf a (length s - a) s))) → putMid a (length s - a) s t ≡ sets s a (take n (drop b s))
+  pub slid-down : (t : List ℕ) → a ≤ b → t ≡ sets rest 0 (take n (drop (b - a) rest)) → putMid a (length s - a) s t ≡ sets s a (take n (drop b s))
   slid-down t h e =
-      let r : midOf a (length s - a) s ≡ drop a s = take-all (length s - a) (drop a s) (omega (arith, length-drop a s)) in
-      let l : length (midOf a (length s - a) s) ≡ length s - a = ap length r ∙ length-drop a s in
+      let vs : List ℕ = take n (drop (b - a) rest) in
       let k : a + (b - a) ≡ b = omega arith in
-      let d : drop (b - a) (midOf a (length s - a) s) ≡ drop b s = ap (drop (b - a)) r ∙ drop-drop (b - a) a s ∙ ap (λ (i : ℕ). drop i s) k in
       let z : a + 0 ≡ a = omega arith in
+      let d : drop (b - a) rest ≡ drop b s = ap (drop (b - a)) rest-is ∙ drop-drop (b - a) a s ∙ ap (λ (i : ℕ). drop i s) k in
       ap (putMid a (length s - a) s) e
-      ∙ put-sets (take n (drop (b - a) (midOf a (length s - a) s))) s a (length s - a) 0 (omega (arith, l, length-take n (drop (b - a) (midOf a (length s - a) s)), length-drop (b - a) (midOf a (length s - a) s)))
+      ∙ put-sets vs s a (length s - a) 0 (omega (arith, length-rest, length-take n (drop (b - a) rest), length-drop (b - a) rest))
       ∙ rw (z, d)
 
   pub slid-none : a ≡ b → s ≡ sets s a (take n (drop b s))
   slid-none e =
-      let l : length (take n (drop b s)) ≡ n = length-take-le n (drop b s) (rw length-drop (omega arith)) in
-      let x : sets s a (take n (drop b s)) ≡ take b s ++ take n (drop b s) ++ drop (b + n) s =
-      ap (λ (i : ℕ). sets s i (take n (drop b s))) e ∙ sets-eq (take n (drop b s)) s b (omega arith) ∙ ap (λ (i : ℕ). take b s ++ take n (drop b s) ++ drop (b + i) s) l in
+      let vs : List ℕ = take n (drop b s) in
+      let l : length vs ≡ n = length-take-le n (drop b s) (rw length-drop (omega arith)) in
+      let x : sets s a vs ≡ take b s ++ vs ++ drop (b + n) s =
+      ap (λ (i : ℕ). sets s i vs) e ∙ sets-eq vs s b (omega arith) ∙ ap (λ (i : ℕ). take b s ++ vs ++ drop (b + i) s) l in
       sym (x ∙ ap (λ (t : List ℕ). t ++ drop (b + n) s) (sym (take-add b n s)) ∙ take-append-drop (b + n) s)
 
 -- ---- what is stored at i, and what stays below and above

@@ -52,7 +52,7 @@ module _ {C : Type 0} where
   rank-below a d (p ∷ m) (suc i) h l =
       elim (first a p m) [ less k r f s ↦ omega arith | same k r f s ↦ omega arith | more k r f s ↦ rw r (suc-le-suc (rank-below a d m i (le-of-suc-le-suc h) l)) ]
 
-  each-at : (P : ℕ × C → Type 0) (d : ℕ × C) (m : Overlay C) (i : ℕ) → i < length m → Each P m → P (getD m i d)
+  pub each-at : (P : ℕ × C → Type 0) (d : ℕ × C) (m : Overlay C) (i : ℕ) → i < length m → Each P m → P (getD m i d)
   each-at P d [] i h all = absurd (omega arith)
   each-at P d (p ∷ m) zero h all = all .0
   each-at P d (p ∷ m) (suc i) h all = each-at P d m i (le-of-suc-le-suc h) (all .1)

@@ -2,7 +2,8 @@
 use mathlib.Core.Path.{_≡_, sym, ap, _∙_}
 use mathlib.Core.List.{List}
 use mathlib.Core.Option.{none, some}
-use Prim.Native.Nat.{ℕ, _+_, _*_, _^_, _≤_, _<_}
+use Prim.Native.Nat.{ℕ, suc, _+_, _*_, _^_, _≤_, _<_}
+use native.Mathlib.Numerals.{add-one}
 use native.Mathlib.Omega.{arith}
 use lib.ListN.{length, take, getD}
 use lib.Seq.{drop-drop}
@@ -11,7 +12,7 @@ use Rattle.layout.proofs.NumberLaws.{numberAt-one}
 use Rattle.layout.proofs.FormatLaws.{Sound, number-sound, pair-sound}
 use Rattle.memory.specs.Overlay.{Cell, byteOf, toByte, find, rank}
 use Rattle.memory.specs.Entries.{entry, entrySize, rowOf, IsRow}
-use Rattle.memory.proofs.OverlayLaws.{key, rank-below, rank-above, rank-most, Stands, find-at, find-none}
+use Rattle.memory.proofs.OverlayLaws.{key, rank-below, rank-above, rank-most, Stands, find-at, find-none, rank-found, rank-lost}
 use Rattle.memory.proofs.EntryLaws.{Sized, number-sized, pair-sized, length-reads, reads-at}
 
 pub entry-sized : Sized entry entrySize
@@ -34,7 +35,7 @@ pub length-row : (s : List ℕ) (n : ℕ) → length (rowOf s n) ≡ n
 unfolding rowOf
 length-row s n = length-reads entry-sized n s
 
-row-key : (s : List ℕ) (n i : ℕ) → i < n → key (rowOf s n) i blank ≡ numberAt s (i * entrySize) 8
+pub row-key : (s : List ℕ) (n i : ℕ) → i < n → key (rowOf s n) i blank ≡ numberAt s (i * entrySize) 8
 unfolding rowOf entry numberAt
 row-key s n i h = ap (λ (p : ℕ × Cell). p .0) (reads-at entry-sized n s i (0, blank) h)
 
@@ -78,3 +79,14 @@ found-there s n a i e h k l b =
 
 pub found-none : (s : List ℕ) (n a i : ℕ) → i ≡ rank a (rowOf s n) → (i < n → numberAt s (i * entrySize) 8 ≡ a → ⊥) → toByte (find a (rowOf s n)) ≡ none
 found-none s n a i e new = ap toByte (find-none a blank (rowOf s n) (stands-not s n a i e new))
+
+-- ---- the rank of the next address
+
+pub rank-there : (s : List ℕ) (n a i : ℕ) → IsRow s n → i ≡ rank a (rowOf s n) → i < n → numberAt s (i * entrySize) 8 ≡ a → i + 1 ≡ rank (a + 1) (rowOf s n)
+rank-there s n a i q e h k =
+    let there : find a (rowOf s n) ≡ none → ⊥ = λ z. let x : _≡_ {A = ℕ} 0 1 = cc (find-at a blank (rowOf s n) (stands s n a i e h k), z) in omega arith in
+    add-one i ∙ ap suc e ∙ sym (rank-found a (rowOf s n) (q .ascending) there) ∙ ap (λ (x : ℕ). rank x (rowOf s n)) (sym (add-one a))
+
+pub rank-not-there : (s : List ℕ) (n a i : ℕ) → i ≡ rank a (rowOf s n) → (i < n → numberAt s (i * entrySize) 8 ≡ a → ⊥) → i ≡ rank (a + 1) (rowOf s n)
+rank-not-there s n a i e new =
+    e ∙ sym (rank-lost a (rowOf s n) (find-none a blank (rowOf s n) (stands-not s n a i e new))) ∙ ap (λ (x : ℕ). rank x (rowOf s n)) (sym (add-one a))

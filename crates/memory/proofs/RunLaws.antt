@@ -6,7 +6,7 @@ use native.Mathlib.Nat.{add-assoc, mod-eq-of-lt}
 use native.Mathlib.Omega.{arith}
 use lib.ListN.{length, take, drop, length-append, length-drop}
 use lib.Seq.{drop-drop, length-take-le, sets, length-sets}
-use Rattle.layout.specs.Each.{Each}
+use Rattle.layout.specs.Each.{Each, Bytes}
 use Rattle.layout.specs.Number.{le, num, numberAt, putNumber}
 use Rattle.layout.specs.Format.{writes, reads}
 use Rattle.layout.proofs.NumberLaws.{length-le, num-le}
@@ -14,13 +14,16 @@ use Rattle.memory.specs.declared.Stored.{Stored}
 use Rattle.memory.specs.declared.Stored.the-variants.{Count, Full}
 use Rattle.memory.specs.declared.row.Span.{Span}
 use Rattle.memory.specs.Overlay.{Overlay, Cell, store, stores, runOf, rank, Ascending}
-use Rattle.memory.specs.Entries.{entry, entrySize, limit, rowOf, firstAt, partSize, first, entries, Sorted, piece}
+use Rattle.memory.specs.Entries.{entry, entrySize, limit, rowOf, IsRow, firstAt, partSize, first, entries, Sorted, piece, overwritten}
 use Rattle.memory.specs.Post.{Holds, Stores, StoresAll, Spans, Spliced}
 use Rattle.memory.proofs.OverlayLaws.{rank-most, stores-one, stores-run, ascending-stores, length-stores}
 use Rattle.memory.proofs.EntryLaws.{length-writes, reads-add, reads-take, reads-front, take-reads, drop-reads, reads-writes}
 use Rattle.memory.proofs.RowLaws.{entry-sized, entry-sound, Fits}
-use Rattle.memory.proofs.MoveLaws.{part-at}
-use Rattle.memory.proofs.PartLaws.{first-some, length-entries, piece-at, piece-above, piece-below}
+use Rattle.memory.proofs.MoveLaws.{part-at, part-above}
+use Rattle.memory.proofs.PartLaws.{first-some, first-said, length-entries}
+use Rattle.memory.proofs.PieceLaws.{piece-at, piece-above, piece-below}
+use Rattle.memory.proofs.WriteLaws.{overwritten-is}
+use Rattle.memory.proofs.SearchLaws.{each-there}
 
 -- ---- the entries of a run
 
@@ -97,74 +100,131 @@ said : (s : List ℕ) (v : ℕ) → v < 65536 → firstAt + 2 ≤ length s → v
 unfolding numberAt putNumber
 said s v h l = sym (ap num (part-at s (le 2 v) firstAt 2 refl l) ∙ num-le 2 v h)
 
+-- a number of a part's rest
+number-in : (s : List ℕ) (i j : ℕ) → numberAt (drop i s) j 8 ≡ numberAt s (i + j) 8
+unfolding numberAt
+number-in s i j = ap (λ (t : List ℕ). num (take 8 t)) (drop-drop j i s)
+
 -- it lies past all entries
 said-past : (s : List ℕ) (v j n : ℕ) → (j + n) * entrySize ≤ firstAt → piece (putNumber s firstAt 2 v) j n ≡ piece s j n
 unfolding putNumber
 said-past s v j n h = piece-below s (le 2 v) firstAt j n h
 
+-- and what is written before it does not change it
+said-kept : (s vs : List ℕ) (i : ℕ) → i + length vs ≤ firstAt → numberAt (sets s i vs) firstAt 2 ≡ numberAt s firstAt 2
+unfolding numberAt
+said-kept s vs i h = ap num (part-above s vs i firstAt 2 h)
+
 length-said : (s : List ℕ) (v : ℕ) → length (putNumber s firstAt 2 v) ≡ length s
 unfolding putNumber
 length-said s v = length-sets s firstAt (le 2 v)
 
-module _ (s s₁ s₂ s₃ : List ℕ) (n : ℕ) (q : Sorted s n) (r : Span) (a v b : ℕ) (w : Spliced (entries s n) n r a b) (f t : ℕ) (ef : f ≡ first s n)
-    (few : t + (r .at + b + (n - r .end)) ≤ limit)
-    (l₁ : length s₁ ≡ length s) (left : piece s₁ t (r .at) ≡ piece s f (r .at)) (right : piece s₁ (t + r .at + b) (n - r .end) ≡ piece s (f + r .end) (n - r .end))
-    (e₂ : s₂ ≡ sets s₁ ((t + r .at) * entrySize) (writes entry (runOf a (le b v)))) (e₃ : s₃ ≡ putNumber s₂ firstAt 2 t) where
-  abbrev written : List ℕ
-  written = writes entry (runOf a (le b v))
+abbrev written : ℕ → ℕ → ℕ → List ℕ
+written a v b = writes entry (runOf a (le b v))
 
-  length-written : length written ≡ b * entrySize
-  length-written = length-writes entry-sized (runOf a (le b v)) ∙ ap (λ (k : ℕ). k * entrySize) (length-run a (le b v) ∙ length-le b v)
+length-written : (a v b : ℕ) → length (written a v b) ≡ b * entrySize
+length-written a v b = length-writes entry-sized (runOf a (le b v)) ∙ ap (λ (k : ℕ). k * entrySize) (length-run a (le b v) ∙ length-le b v)
 
-  length-left : length s₃ ≡ length s
-  length-left = ap length e₃ ∙ length-said s₂ t ∙ ap length e₂ ∙ length-sets s₁ ((t + r .at) * entrySize) written ∙ l₁
+-- s₁ has the entries before the run and those after it at their places, and s₂ is s₁ with the run between
+module _ (s s₁ s₂ : List ℕ) (n : ℕ) (q : Sorted s n) (r : Span) (a v b : ℕ) (w : Spliced (entries s n) n r a b) (t : ℕ) where
+  pub record Between : Type 0 where
+    pub long : length s₁ ≡ length s
+    pub left : piece s₁ t (r .at) ≡ piece s (first s n) (r .at)
+    pub right : piece s₁ (t + r .at + b) (n - r .end) ≡ piece s (first s n + r .end) (n - r .end)
+    pub fits : t + (r .at + b + (n - r .end)) ≤ limit
+    pub same-length : length s₂ ≡ length s₁
+    pub pieces : (j k : ℕ) → j + k ≤ limit → piece s₂ j k ≡ piece (sets s₁ ((t + r .at) * entrySize) (written a v b)) j k
+    pub at-first : t ≡ first s₂ (r .at + b + (n - r .end))
 
-  piece-left : (j k : ℕ) → j + k ≤ limit → piece s₃ j k ≡ piece (sets s₁ ((t + r .at) * entrySize) written) j k
-  piece-left j k h = ap (λ (x : List ℕ). piece x j k) e₃ ∙ said-past s₂ t j k (omega arith) ∙ ap (λ (x : List ℕ). piece x j k) e₂
+  module _ (g : Between) where
+    row-is : rowOf (drop (t * entrySize) s₂) (r .at + b + (n - r .end)) ≡ take (r .at) (entries s n) ++ (runOf a (le b v) ++ drop (r .end) (entries s n))
+    row-is =
+        let room : partSize ≤ length s = q .room in
+        let within : r .end ≤ n = w .span .within in
+        let before : r .at ≤ r .end = w .span .before in
+        let fits : t + (r .at + b + (n - r .end)) ≤ limit = g .fits in
+        let l₁ : length s₁ ≡ length s = g .long in
+        let lw : length (written a v b) ≡ b * entrySize = length-written a v b in
+        let x : piece s₂ t (r .at) ≡ piece s (first s n) (r .at) =
+        g .pieces t (r .at) (omega arith) ∙ piece-below s₁ (written a v b) ((t + r .at) * entrySize) t (r .at) (omega arith) ∙ g .left in
+        let y : piece s₂ (t + r .at) b ≡ written a v b = g .pieces (t + r .at) b (omega arith) ∙ piece-at s₁ (written a v b) (t + r .at) b lw (omega arith) in
+        let z : piece s₂ (t + r .at + b) (n - r .end) ≡ piece s (first s n + r .end) (n - r .end) =
+        g .pieces (t + r .at + b) (n - r .end) (omega arith) ∙ piece-above s₁ (written a v b) (t + r .at) b (t + r .at + b) (n - r .end) lw (omega arith) ∙ g .right in
+        three s₂ t (r .at) b (n - r .end) (omega (arith, g .same-length))
+        ∙ ap₂ (λ (k l : Overlay Cell). k ++ l) (ap (λ (k : List ℕ). reads entry (r .at) k .0) x ∙ sym (take-entries s n q (r .at) (omega arith)))
+        (ap₂ (λ (k l : Overlay Cell). k ++ l) (ap (λ (k : List ℕ). reads entry b k .0) y ∙ run-read b a v (w .no-wrap))
+        (ap (λ (k : List ℕ). reads entry (n - r .end) k .0) z ∙ sym (drop-entries s n q (r .end) within)))
 
-  -- the entries before the run, the run, and those after it
-  row-is : rowOf (drop (t * entrySize) s₃) (r .at + b + (n - r .end)) ≡ take (r .at) (entries s n) ++ (runOf a (le b v) ++ drop (r .end) (entries s n))
-  row-is =
-      let room : partSize ≤ length s = q .room in
-      let within : r .end ≤ n = w .span .within in
-      let before : r .at ≤ r .end = w .span .before in
-      let x : piece s₃ t (r .at) ≡ piece s (first s n) (r .at) =
-      piece-left t (r .at) (omega arith) ∙ piece-below s₁ written ((t + r .at) * entrySize) t (r .at) (omega arith) ∙ left ∙ ap (λ (g : ℕ). piece s g (r .at)) ef in
-      let y : piece s₃ (t + r .at) b ≡ written = piece-left (t + r .at) b (omega arith) ∙ piece-at s₁ written (t + r .at) b length-written (omega arith) in
-      let z : piece s₃ (t + r .at + b) (n - r .end) ≡ piece s (first s n + r .end) (n - r .end) =
-      piece-left (t + r .at + b) (n - r .end) (omega arith)
-      ∙ piece-above s₁ written (t + r .at) b (t + r .at + b) (n - r .end) length-written (omega arith)
-      ∙ right
-      ∙ ap (λ (g : ℕ). piece s (g + r .end) (n - r .end)) ef in
-      three s₃ t (r .at) b (n - r .end) (omega (arith, length-left))
-      ∙ ap₂ (λ (k l : Overlay Cell). k ++ l) (ap (λ (k : List ℕ). reads entry (r .at) k .0) x ∙ sym (take-entries s n q (r .at) (omega arith)))
-      (ap₂ (λ (k l : Overlay Cell). k ++ l) (ap (λ (k : List ℕ). reads entry b k .0) y ∙ run-read b a v (w .no-wrap))
-      (ap (λ (k : List ℕ). reads entry (n - r .end) k .0) z ∙ sym (drop-entries s n q (r .end) within)))
+    stored-is : stores a (le b v) (entries s n) ≡ take (r .at) (entries s n) ++ (runOf a (le b v) ++ drop (r .end) (entries s n))
+    stored-is =
+        let l : length (le b v) ≡ b = length-le b v in
+        stores-run (le b v) a (entries s n) (q .ascending) (omega (arith, w .no-wrap)) ∙ rw (l, ← (w .span .at), ← (w .span .end))
 
-  stored-is : stores a (le b v) (entries s n) ≡ take (r .at) (entries s n) ++ (runOf a (le b v) ++ drop (r .end) (entries s n))
-  stored-is =
-      let l : length (le b v) ≡ b = length-le b v in
-      stores-run (le b v) a (entries s n) (q .ascending) (omega (arith, w .no-wrap))
-      ∙ rw (l, ← (w .span .at), ← (w .span .end))
+    held : Holds (stores a (le b v) (entries s n)) s₂ (r .at + b + (n - r .end))
+    unfolding entries
+    held =
+        let room : partSize ≤ length s = q .room in
+        let same : entries s₂ (r .at + b + (n - r .end)) ≡ stores a (le b v) (entries s n) =
+        ap (λ (x : ℕ). rowOf (drop (x * entrySize) s₂) (r .at + b + (n - r .end))) (sym (g .at-first)) ∙ row-is ∙ sym stored-is in
+        record {
+          sorted = record {
+            room = omega (arith, g .same-length, g .long);
+            placed = omega (arith, g .at-first, g .fits);
+            ascending = subst Ascending (sym same) (ascending-stores (le b v) a (entries s n) (q .ascending));
+          };
+          same = same;
+        }
 
-  pub spliced : Holds (stores a (le b v) (entries s n)) s₃ (r .at + b + (n - r .end))
-  unfolding entries
-  spliced =
-      let room : partSize ≤ length s = q .room in
-      let some-bytes : 0 < b = w .some-bytes in
-      let at-first : t ≡ first s₃ (r .at + b + (n - r .end)) =
-      first-some s₃ (r .at + b + (n - r .end)) t (λ e. omega arith)
-      (said s₂ t (omega arith) (omega (arith, length-left, ap length e₃, length-said s₂ t)) ∙ ap (λ (x : List ℕ). numberAt x firstAt 2) (sym e₃)) in
-      let same : entries s₃ (r .at + b + (n - r .end)) ≡ stores a (le b v) (entries s n) =
-      ap (λ (x : ℕ). rowOf (drop (x * entrySize) s₃) (r .at + b + (n - r .end))) (sym at-first) ∙ row-is ∙ sym stored-is in
-      record {
-        sorted = record {
-          room = omega (arith, length-left);
-          placed = omega (arith, at-first);
-          ascending = subst Ascending (sym same) (ascending-stores (le b v) a (entries s n) (q .ascending));
-        };
-        same = same;
-      }
+-- the entries on both sides made way, and the part says where the first one is
+pub spliced : (s s₁ s₂ s₃ : List ℕ) (n : ℕ) (q : Sorted s n) (r : Span) (a v b : ℕ) → Spliced (entries s n) n r a b → (f t : ℕ) → f ≡ first s n
+    → t + (r .at + b + (n - r .end)) ≤ limit → length s₁ ≡ length s
+    → piece s₁ t (r .at) ≡ piece s f (r .at) → piece s₁ (t + r .at + b) (n - r .end) ≡ piece s (f + r .end) (n - r .end)
+    → s₂ ≡ sets s₁ ((t + r .at) * entrySize) (written a v b) → s₃ ≡ putNumber s₂ firstAt 2 t
+    → Holds (stores a (le b v) (entries s n)) s₃ (r .at + b + (n - r .end))
+spliced s s₁ s₂ s₃ n q r a v b w f t ef fits l₁ left right e₂ e₃ =
+    let room : partSize ≤ length s = q .room in
+    let some-bytes : 0 < b = w .some-bytes in
+    let l₂ : length s₂ ≡ length s₁ = ap length e₂ ∙ length-sets s₁ ((t + r .at) * entrySize) (written a v b) in
+    held s s₁ s₃ n q r a v b w t
+    (record {
+      long = l₁;
+      left = left ∙ ap (λ (g : ℕ). piece s g (r .at)) ef;
+      right = right ∙ ap (λ (g : ℕ). piece s (g + r .end) (n - r .end)) ef;
+      fits = fits;
+      same-length = ap length e₃ ∙ length-said s₂ t ∙ l₂;
+      pieces = λ j k h. ap (λ (x : List ℕ). piece x j k) e₃ ∙ said-past s₂ t j k (omega arith) ∙ ap (λ (x : List ℕ). piece x j k) e₂;
+      at-first = first-some s₃ (r .at + b + (n - r .end)) t (λ e. omega arith) (said s₂ t (omega arith) (omega arith) ∙ ap (λ (x : List ℕ). numberAt x firstAt 2) (sym e₃));
+    })
+
+-- each address of the run has its entry, whose byte is replaced
+pub replaced : (s s₁ : List ℕ) (n : ℕ) (q : Sorted s n) → Bytes s → (r : Span) (a v b : ℕ) → Spans (entries s n) n r a b → 0 < b → a + b ≤ 2 ^ 64 → r .end - r .at ≡ b → (f : ℕ) → f ≡ first s n
+    → s₁ ≡ overwritten s (f + r .at) (le b v) → Holds (stores a (le b v) (entries s n)) s₁ n
+unfolding entries
+replaced s s₁ n q all r a v b w some-bytes no-wrap full f ef over =
+    let room : partSize ≤ length s = q .room in
+    let placed : first s n + n ≤ limit = q .placed in
+    let within : r .end ≤ n = w .within in
+    let before : r .at ≤ r .end = w .before in
+    let next : r .at + b + (n - r .end) ≡ n = omega arith in
+    let here : f + r .at + b ≡ first s n + r .end = omega arith in
+    let lw : length (written a v b) ≡ b * entrySize = length-written a v b in
+    let d : List ℕ = drop (first s n * entrySize) s in
+    let row : IsRow d n = record { room = rw length-drop (omega arith); ascending = q .ascending } in
+    let there : (k : ℕ) → k < b → numberAt s ((f + r .at + k) * entrySize) 8 ≡ a + k = λ k l.
+    let x : first s n * entrySize + (r .at + k) * entrySize ≡ (f + r .at + k) * entrySize = omega arith in
+    sym (number-in s (first s n * entrySize) ((r .at + k) * entrySize) ∙ ap (λ (y : ℕ). numberAt s y 8) x) ∙ each-there d n a b (r .at) (r .end) row (w .at) (w .end) within full k l in
+    let e : s₁ ≡ sets s ((f + r .at) * entrySize) (written a v b) = over ∙ overwritten-is b s (f + r .at) a v all (omega arith) there in
+    subst (Holds (stores a (le b v) (entries s n)) s₁) next
+    (held s s s₁ n q r a v b (record { span = w; some-bytes = some-bytes; no-wrap = no-wrap; few = omega arith }) f
+    (record {
+      long = refl;
+      left = ap (λ (g : ℕ). piece s g (r .at)) ef;
+      right = ap (λ (g : ℕ). piece s g (n - r .end)) here;
+      fits = omega arith;
+      same-length = ap length e ∙ length-sets s ((f + r .at) * entrySize) (written a v b);
+      pieces = λ j k h. ap (λ (x : List ℕ). piece x j k) e;
+      at-first = first-some s₁ (r .at + b + (n - r .end)) f (λ z. omega arith) (ef ∙ first-said s n (λ z. omega arith) ∙ sym (ap (λ (x : List ℕ). numberAt x firstAt 2) e ∙ said-kept s (written a v b) ((f + r .at) * entrySize) (omega arith)));
+    }))
 
 -- ---- what a store answers
 

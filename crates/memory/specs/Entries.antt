@@ -1,7 +1,7 @@
 -- The overlay as bytes: entries in the record's own layout, ascending, one after the other, in a part of the workspace. Assumes nothing.
-use mathlib.Core.List.{List}
+use mathlib.Core.List.{List, [], _∷_}
 use Prim.Native.Nat.{ℕ, zero, suc, _+_, _*_, _≤_}
-use lib.ListN.{length, take, drop}
+use lib.ListN.{length, take, drop, set}
 use Rattle.layout.specs.Number.{numberAt}
 use Rattle.layout.specs.Format.{Format, number, pair, writes, reads}
 use Rattle.memory.specs.Overlay.{Overlay, Cell, Ascending}
@@ -53,3 +53,8 @@ pub record Sorted (s : List ℕ) (n : ℕ) : Type 0 where
 -- the bytes of n entries from place i on
 unfoldable pub piece : List ℕ → ℕ → ℕ → List ℕ
 piece s i n = take (n * entrySize) (drop (i * entrySize) s)
+
+-- the bytes of the entries from place i on replaced, their addresses left
+unfoldable pub overwritten : List ℕ → ℕ → List ℕ → List ℕ
+overwritten s i [] = s
+overwritten s i (b ∷ bs) = overwritten (set s (i * entrySize + 8) b) (suc i) bs

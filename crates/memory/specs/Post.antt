@@ -2,7 +2,7 @@
 use mathlib.Core.Path.{_≡_}
 use mathlib.Core.List.{List}
 use mathlib.Core.Option.{Option, none, some}
-use Prim.Native.Nat.{ℕ, _+_, _-_, _*_, _^_, _<_, _≤_}
+use Prim.Native.Nat.{ℕ, _+_, _-_, _*_, _^_, _<_, _≤_, min}
 use lib.ListN.{length}
 use Rattle.memory.specs.declared.Stored.{Stored}
 use Rattle.memory.specs.declared.Stored.the-variants.{Count, Full}
@@ -43,6 +43,10 @@ Stores m s s′ Full = (limit < length m) × (s′ ≡ s)
 abbrev pub StoresAll : Overlay Cell → List ℕ → Stored → Type 0
 StoresAll m s′ (Count n) = Holds m s′ n
 StoresAll m s′ Full = limit < length m
+
+-- how many of the three places that part a stretch in quarters come before a rank
+unfoldable pub passed : ℕ → ℕ → ℕ → ℕ
+passed k base q = min 1 (k - (base + q)) + min 1 (k - (base + 2 * q)) + min 1 (k - (base + 3 * q))
 
 -- the entries that have the addresses of a store
 pub record Spans (m : Overlay Cell) (count : ℕ) (r : Span) (address bytes : ℕ) : Type 0 where

@@ -7,10 +7,11 @@ ghost use lib.Seq.{sets};
 ghost use Rattle.layout.specs.Number.{le};
 ghost use Rattle.layout.specs.Format.{writes};
 ghost use Rattle.memory.specs.Overlay.{toByte, find as findIn, store as storeIn, stores, runOf, load};
-ghost use Rattle.memory.specs.Entries.{Sorted, entry, entries, entrySize, limit, first, piece, memoryBody};
-ghost use Rattle.memory.specs.Post.{foundAs, loadedAs, Holds, Stores, StoresAll, SlideBoth, Slid, Spliced};
+ghost use Rattle.memory.specs.Entries.{Sorted, entry, entries, entrySize, limit, first, piece, overwritten, memoryBody};
+ghost use Rattle.memory.specs.Post.{foundAs, loadedAs, Holds, Stores, StoresAll, SlideBoth, Slid, Spans, Spliced};
 
 mod row;
+mod search;
 
 use row::Span;
 
@@ -25,6 +26,9 @@ const FIRST: usize = LIMIT * ENTRY;
 
 // The bytes of a part.
 pub const PART: usize = FIRST + 2;
+
+// So many entries are moved sooner than a branch is taken that the machine guesses wrong.
+const FEW: usize = 64;
 
 pub enum Found {
     Byte(u8),
@@ -205,10 +209,10 @@ fn slide_both(part: &mut [u8], left: Move, right: Move)
 // The place of the first entry once some entries between at and end of count have become next in all: the shorter side moves if it has room, else both do,
 // so that as much room is left before the first as after the last.
 fn place(first: usize, count: usize, at: usize, end: usize, next: usize) -> usize
-    requires { ⌜ (first + count ≤ limit) × (end ≤ count) × (next ≤ limit) ⌝ }
+    requires { ⌜ (first + count ≤ limit) × (at ≤ end) × (end ≤ count) × (next ≤ limit) ⌝ }
     ensures { λ r. ⌜ r + next ≤ limit ⌝ }
 {
-    if at < count - end {
+    if at + FEW < count - end {
         if next <= first + count {
             return first + count - next;
         }
@@ -270,14 +274,34 @@ fn splice(part: &mut [u8], count: usize, span: Span, address: u64, number: u64, 
     layout::put16(part, FIRST, to as u64);
 }
 
-// The low bytes of a number stored from an address on, where addresses do not wrap: one search, and one move of the entries on one side.
-fn store_run(part: &mut [u8], count: usize, address: u64, number: u64, bytes: usize) -> Stored
-    requires { ⌜ Sorted (now part) count ⌝ }
+// The low bytes of a number in the entries from a place on, whose addresses stay.
+fn overwrite(part: &mut [u8], i: usize, number: u64, bytes: usize)
+    requires { ⌜ (i + bytes) * entrySize ≤ length (now part) ⌝ }
+    ensures { λ _. ⌜ now (part .exit) ≡ overwritten (now (part .entry)) i (le bytes number) ⌝ }
+{
+    let mut left = number;
+    let mut k = 0;
+    while k < bytes {
+        let place = (i + k) * ENTRY + 8;
+        part[place] = (left % 256) as u8;
+        left = left / 256;
+        k += 1;
+    }
+}
+
+// The bytes of a store, whose entries are known, if there is room.
+fn insert(
+    part: &mut [u8],
+    count: usize,
+    span: Span,
+    address: u64,
+    number: u64,
+    bytes: usize,
+) -> Stored
+    requires { ⌜ Sorted (now part) count × Spans (entries (now part) count) count span address bytes ⌝ }
     requires { ⌜ (0 < bytes) × (bytes ≤ 8) × (address + bytes ≤ 2 ^ 64) ⌝ }
     ensures { λ r. ⌜ Stores (stores address (le bytes number) (entries (now (part .entry)) count)) (now (part .entry)) (now (part .exit)) r ⌝ }
 {
-    let from = first_of(part, count) * ENTRY;
-    let span = row::span_of(&part[from..], count, address, bytes);
     let next = span.at + bytes + (count - span.end);
     if LIMIT < next {
         return Stored::Full;
@@ -291,7 +315,31 @@ pub fn store(part: &mut [u8], count: usize, address: u64, byte: u8) -> Stored
     requires { ⌜ Sorted (now part) count ⌝ }
     ensures { λ r. ⌜ Stores (storeIn address byte (entries (now (part .entry)) count)) (now (part .entry)) (now (part .exit)) r ⌝ }
 {
-    store_run(part, count, address, byte as u64, 1)
+    let first = first_of(part, count);
+    let from = first * ENTRY;
+    let span = row::span_of_byte(&part[from..], count, address);
+    if span.end - span.at == 1 {
+        overwrite(part, first + span.at, byte as u64, 1);
+        return Stored::Count(count);
+    }
+    insert(part, count, span, address, byte as u64, 1)
+}
+
+// The low bytes of a number stored from an address on, where addresses do not wrap: one search, then in their place if each has one, else one move of the
+// entries on one side.
+fn store_run(part: &mut [u8], count: usize, address: u64, number: u64, bytes: usize) -> Stored
+    requires { ⌜ Sorted (now part) count ⌝ }
+    requires { ⌜ (0 < bytes) × (bytes ≤ 8) × (address + bytes ≤ 2 ^ 64) ⌝ }
+    ensures { λ r. ⌜ Stores (stores address (le bytes number) (entries (now (part .entry)) count)) (now (part .entry)) (now (part .exit)) r ⌝ }
+{
+    let first = first_of(part, count);
+    let from = first * ENTRY;
+    let span = row::span_of(&part[from..], count, address, bytes);
+    if span.end - span.at == bytes {
+        overwrite(part, first + span.at, number, bytes);
+        return Stored::Count(count);
+    }
+    insert(part, count, span, address, number, bytes)
 }
 
 // The low bytes of a number stored one by one, as addresses wrap.

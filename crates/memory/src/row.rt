@@ -1,15 +1,17 @@
-// Entries one after the other from the front of a slice, ascending by address: what an address has there.
+// What the addresses from one on have in a row of entries: one search, then a step for each.
 ghost use mathlib.Core.Path.{_≡_};
 ghost use Prim.Native.Nat.{suc, _+_, _*_, _%_, _^_, _<_, _≤_};
-ghost use lib.ListN.{length};
-ghost use Rattle.layout.specs.Number.{le, numberAt};
+ghost use Rattle.layout.specs.Number.{le};
 ghost use Rattle.memory.specs.Overlay.{toByte, find as findIn, rank, byteOr, load as loadIn};
-ghost use Rattle.memory.specs.Entries.{IsRow, rowOf, entrySize};
+ghost use Rattle.memory.specs.Entries.{IsRow, rowOf};
 ghost use Rattle.memory.specs.Post.{foundAs, loadedAs, nextAs, Spans};
 use super::ENTRY;
 use super::Found;
 use super::Image;
 use super::Loaded;
+use super::search::address_at;
+use super::search::lower;
+use super::search::past;
 
 // Which entries have the addresses of a store: from one up to another.
 pub struct Span {
@@ -23,49 +25,7 @@ pub enum Next {
     Missing,
 }
 
-// The address of entry i.
-fn address_at(row: &[u8], i: usize) -> u64
-    requires { ⌜ i * entrySize + entrySize ≤ length (now row) ⌝ }
-    ensures { λ r. ⌜ r ≡ numberAt (now (row .entry)) (i * entrySize) 8 ⌝ }
-{
-    layout::get64(row, i * ENTRY)
-}
-
-// How many entries come before an address.
-fn lower(row: &[u8], count: usize, address: u64) -> usize
-    requires { ⌜ IsRow (now row) count ⌝ }
-    ensures { λ r. ⌜ r ≡ rank address (rowOf (now (row .entry)) count) ⌝ }
-{
-    let mut lo = 0;
-    let mut hi = count;
-    while lo < hi {
-        let mid = lo + (hi - lo) / 2;
-        if address_at(row, mid) < address {
-            lo = mid + 1;
-        } else {
-            hi = mid;
-        }
-    }
-    lo
-}
-
-// How many entries come before the address past the last one, if at least so many do.
-fn past(row: &[u8], count: usize, from: usize, last: u64) -> usize
-    requires { ⌜ IsRow (now row) count ⌝ }
-    requires { ⌜ from ≤ rank (suc last) (rowOf (now row) count) ⌝ }
-    ensures { λ r. ⌜ r ≡ rank (suc last) (rowOf (now (row .entry)) count) ⌝ }
-{
-    let mut i = from;
-    while i < count {
-        if last < address_at(row, i) {
-            return i;
-        }
-        i += 1;
-    }
-    i
-}
-
-// The entries of so many bytes from an address on: one search, then a step for each entry.
+// The entries of so many bytes from an address on.
 pub fn span_of(row: &[u8], count: usize, address: u64, bytes: usize) -> Span
     requires { ⌜ IsRow (now row) count ⌝ }
     requires { ⌜ (0 < bytes) × (address + bytes ≤ 2 ^ 64) ⌝ }
@@ -74,6 +34,23 @@ pub fn span_of(row: &[u8], count: usize, address: u64, bytes: usize) -> Span
     let at = lower(row, count, address);
     let end = past(row, count, at, address + (bytes as u64 - 1));
     Span { at: at, end: end }
+}
+
+// The entry of one byte.
+pub fn span_of_byte(row: &[u8], count: usize, address: u64) -> Span
+    requires { ⌜ IsRow (now row) count ⌝ }
+    ensures { λ r. ⌜ Spans (rowOf (now (row .entry)) count) count r address 1 ⌝ }
+{
+    let at = lower(row, count, address);
+    if at < count {
+        if address_at(row, at) == address {
+            return Span {
+                at: at,
+                end: at + 1,
+            };
+        }
+    }
+    Span { at: at, end: at }
 }
 
 // The byte at an address whose rank is known.
@@ -137,7 +114,7 @@ fn joined(number: u64, i: usize, byte: u8) -> u64
     number + ((byte as u64) << (8 * i))
 }
 
-// The number of the bytes from an address on: one search, then a step for each byte.
+// The number of the bytes from an address on.
 pub fn load(row: &[u8], count: usize, image: Image, address: u64, bytes: usize) -> Loaded
     requires { ⌜ IsRow (now row) count ⌝ }
     requires { ⌜ bytes ≤ 8 ⌝ }

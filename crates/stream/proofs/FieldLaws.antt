@@ -1,26 +1,25 @@
 -- What the fields of a piece say in the definition's terms: a line for each way to stop, for each reason and for each note. Assumes nothing.
-use mathlib.Core.Path.{_≡_, refl, sym, ap, _∙_}
+use mathlib.Core.Path.{_≡_, refl, sym, ap, _∙_, subst}
 use mathlib.Core.Bool.{Bool, true, false}
 use mathlib.Core.List.{List, [], _∷_, _++_}
 use mathlib.Core.Option.{none, some}
 use Prim.Native.Nat.{ℕ, _^_, _<_}
 use native.Mathlib.Omega.{arith}
 use lib.ListN.{length}
-use lib.Dec.{lit<}
 use Rattle.value.specs.declared.Val.{Val}
 use Rattle.layout.specs.Each.{Each}
 use Rattle.layout.specs.Number.{le, numberAt}
-use Rattle.layout.specs.Format.{number, pair, writes}
-use Rattle.layout.proofs.FormatLaws.{Sound, Below, number-sound, pair-sound, counted-sound}
+use Rattle.layout.specs.Format.{number, writes}
+use Rattle.layout.proofs.FormatLaws.{Below, number-sound, counted-sound}
 use Rattle.definition.specs.Act.{branchUnknown, switchUnknown, noCase, structTo, unknownAddress, unknownValue, noWidth, storeTo, byZero, noNote, fieldsWritten, valueWritten, resultUnknown, notFollowed, Step}
 use Rattle.definition.specs.Statements.{Stop, Returned, Steps, Unknown, NoBlock, NoBlocks, NoReturn, Halted}
 use Rattle.definition.specs.Fields.{noVal, flagAndNumber}
-use Rattle.definition.specs.Record.{StopFields, stopFormat, stopFields, stopBody, WroteFields, wroteFields, NoteFields, noteFields, StepFields, stepFields, stepFormat}
-use Rattle.definition.proofs.Fields.{ValFits, flag-sound, val-sound}
+use Rattle.definition.specs.Record.{stopFields, stopBody, wroteFields, noteFields, StepFields, stepFields}
 use Rattle.stream.specs.declared.NotePiece.{NotePiece}
 use Rattle.stream.specs.declared.StepPiece.{StepPiece}
 use Rattle.stream.specs.declared.StopPiece.{StopPiece}
-use Rattle.stream.specs.Pieces.{optional, takenNames, noteFrom, stepFrom}
+use Rattle.stream.specs.Stream.{Sent}
+use Rattle.stream.specs.Pieces.{optional, takenNames, stepBytes, noteFrom, stepFrom}
 use Rattle.stream.specs.Bodies.{stopBytes, stopFrom}
 use Rattle.stream.proofs.StepLaws.{length-taken}
 
@@ -157,68 +156,14 @@ pub step-fields : (p : StepPiece) (names : List ℕ) (s : Step) → optional (p 
 unfolding stepFrom
 step-fields p names s a b c d e = λ i. (flagAndNumber (a i), (b i, (c i, (wroteFields (d i), e i))))
 
+-- so what a writer sent is the step
+pub step-sent : {on : Bool} {out out′ : List ℕ} {at r : ℕ} (p : StepPiece) (names : List ℕ) (s : Step) → Sent on out at (stepBytes (stepFrom p names)) out′ r
+    → optional (p .located) (p .address) ≡ s .address → p .block ≡ s .block → p .statement ≡ s .statement → optional (p .wrote) (p .name, p .value) ≡ s .wrote
+    → noteFrom (p .note) names ≡ noteFields (s .note) → Sent on out at (stepBytes (stepFields s)) out′ r
+step-sent {on} {out} {out′} {at} {r} p names s t a b c d e =
+    subst (λ (f : StepFields). Sent on out at (stepBytes f) out′ r) (step-fields p names s a b c d e) t
+
 -- names written behind their count are the names taken
 pub taken-back : (xs rest : List ℕ) → length xs < 256 ^ 2 → Each (Below 2) xs → takenNames true (le 2 (length xs) ++ writes (number 2) xs ++ rest) ≡ xs
 unfolding takenNames numberAt
 taken-back xs rest l h = ap (λ (p : List ℕ × List ℕ). p .0) (counted-sound (number-sound 2) 2 .back xs (l, h) rest)
-
--- ---- the fields hold what they are given: nothing is cut
-
-abbrev OptionFields : ℕ × ℕ → Type 0
-OptionFields f = Below 1 (f .0) × Below 8 (f .1)
-
-option-sound : Sound (pair (number 1) (number 8)) OptionFields
-option-sound = pair-sound (number-sound 1) (number-sound 8)
-
-abbrev pub StopFits : StopFields → Type 0
-StopFits f =
-    Below 1 (f .0) × (Below 1 (f .1 .0) × (OptionFields (f .1 .1 .0) × (Below 8 (f .1 .1 .1 .0) × (Below 4 (f .1 .1 .1 .1 .0) × (Below 2 (f .1 .1 .1 .1 .1 .0) × ValFits (f .1 .1 .1 .1 .1 .1))))))
-
-pub stop-sound : Sound stopFormat StopFits
-stop-sound =
-    pair-sound (number-sound 1) (pair-sound (number-sound 1) (pair-sound option-sound (pair-sound (number-sound 8) (pair-sound (number-sound 4) (pair-sound (number-sound 2) val-sound)))))
-
-abbrev pub WroteFits : WroteFields → Type 0
-WroteFits f = Unit {0} × (Below 2 (f .1 .0) × ValFits (f .1 .1))
-
-abbrev pub NoteFits : NoteFields → Type 0
-NoteFits f =
-    Below 1 (f .0) × (Below 8 (f .1 .0) × (Below 4 (f .1 .1 .0) × (ValFits (f .1 .1 .1 .0) × (Below 2 (length (f .1 .1 .1 .1)) × Each (Below 2) (f .1 .1 .1 .1)))))
-
-abbrev pub StepFits : StepFields → Type 0
-StepFits f = OptionFields (f .0) × (Below 4 (f .1 .0) × (Below 4 (f .1 .1 .0) × (WroteFits (f .1 .1 .1 .0) × NoteFits (f .1 .1 .1 .1))))
-
-pub step-sound : Sound stepFormat StepFits
-step-sound =
-    pair-sound option-sound
-    (pair-sound (number-sound 4)
-    (pair-sound (number-sound 4)
-    (pair-sound (pair-sound flag-sound (pair-sound (number-sound 2) val-sound))
-    (pair-sound (number-sound 1) (pair-sound (number-sound 8) (pair-sound (number-sound 4) (pair-sound val-sound (counted-sound (number-sound 2) 2))))))))
-
-option-fits : (known : Bool) (n : ℕ) → n < 256 ^ 8 → OptionFields (flagAndNumber (optional known n))
-option-fits true n h = (lit< tt, h)
-option-fits false n h = (lit< tt, lit< tt)
-
-wrote-fits : (wrote : Bool) (name : ℕ) (v : Val) → name < 256 ^ 2 → ValFits v → WroteFits (wroteFields (optional wrote (name, v)))
-wrote-fits true name v h k = (tt, (h, k))
-wrote-fits false name v h k = (tt, (lit< tt, (lit< tt, lit< tt)))
-
-names-fit : (taken : Bool) (names : List ℕ) → Below 2 (length (takenNames taken names)) × Each (Below 2) (takenNames taken names)
-unfolding takenNames numberAt
-names-fit true names = counted-sound (number-sound 2) 2 .fits names
-names-fit false names = (lit< tt, tt)
-
-pub stop-fits : (p : StopPiece) → p .kind < 256 → p .reason < 256 → p .address < 256 ^ 8 → p .number < 256 ^ 8 → p .node < 256 ^ 4 → p .name < 256 ^ 2 → ValFits (p .value)
-    → StopFits (stopFrom p)
-unfolding stopFrom
-stop-fits p a b c d e f g = (a, (b, (option-fits (p .located) (p .address) c, (d, (e, (f, g))))))
-
-pub note-fits : (n : NotePiece) (names : List ℕ) → n .kind < 256 → n .address < 256 ^ 8 → n .count < 256 ^ 4 → ValFits (n .value) → NoteFits (noteFrom n names)
-unfolding noteFrom
-note-fits n names a b c d = (a, (b, (c, (d, names-fit (n .taken) names))))
-
-pub step-fits : (p : StepPiece) (names : List ℕ) → p .address < 256 ^ 8 → p .block < 256 ^ 4 → p .statement < 256 ^ 4 → p .name < 256 ^ 2 → ValFits (p .value)
-    → NoteFits (noteFrom (p .note) names) → StepFits (stepFrom p names)
-unfolding stepFrom
-step-fits p names a b c d e f = (option-fits (p .located) (p .address) a, (b, (c, (wrote-fits (p .wrote) (p .name) (p .value) d e, f))))

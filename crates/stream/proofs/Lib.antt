@@ -5,3 +5,4 @@ pub mod StepLaws
 pub mod BodyLaws
 pub mod RecordLaws
 pub mod FieldLaws
+pub mod FitLaws

@@ -1,29 +1,26 @@
 -- The bytes of a question with its answer: their groups, their lengths, and that the body grows by them. Assumes nothing.
-use mathlib.Core.Path.{_≡_, refl, sym, ap, ap₂, _∙_}
-use mathlib.Core.Bool.{Bool, true, false}
+use mathlib.Core.Path.{_≡_, refl, sym, ap, ap₂, _∙_, subst}
+use mathlib.Core.Bool.{Bool, true}
 use mathlib.Core.List.{List, [], _∷_, _++_, append-nil}
 use mathlib.Core.Option.{Option}
-use Prim.Native.Nat.{ℕ, zero, suc, _+_, _*_, _/_, _%_, _^_, _≤_, _<_}
+use Prim.Native.Nat.{ℕ, zero, suc, _+_, _*_, _/_, _%_, _≤_}
 use native.Mathlib.Omega.{arith}
 use lib.ListN.{length, take, drop, length-append}
 use lib.Seq.{sets, length-take-le, take-add, take-at}
-use lib.Dec.{lit<}
 use Rattle.value.specs.declared.Val.{Val}
-use Rattle.layout.specs.Each.{Each}
 use Rattle.layout.specs.Number.{le, putNumber}
 use Rattle.layout.specs.Format.{number, writes}
 use Rattle.layout.proofs.NumberLaws.{length-le}
 use Rattle.layout.proofs.StoreLaws.{take-sets, drop-sets-at}
-use Rattle.layout.proofs.FormatLaws.{Below, writes-append}
+use Rattle.layout.proofs.FormatLaws.{writes-append}
 use Rattle.definition.specs.Question.{Entry}
 use Rattle.definition.specs.Fields.{val, codeOf, written, entry}
 use Rattle.definition.specs.Record.{questionsBody}
-use Rattle.definition.proofs.Fields.{ValFits, WrittenFits}
 use Rattle.stream.specs.declared.Symbol.{Symbol}
 use Rattle.stream.specs.declared.Symbol.the-variants.{AddressOf, SizeOf}
-use Rattle.stream.specs.Pieces.{valueBytes, optional, askedBy, questionBytes, symbolEntry, readEntry, callEntry, callBytes}
+use Rattle.stream.specs.Pieces.{valueBytes, askedBy, questionBytes, symbolEntry, readEntry, callEntry, callBytes}
 use Rattle.stream.specs.Groups.{flaggedBytes, spanBytes, calleeBytes}
-use Rattle.stream.specs.Stream.{placed, advanced, Counted, Streamed}
+use Rattle.stream.specs.Stream.{placed, advanced, Sent, Counted, Streamed}
 use Rattle.stream.proofs.StreamLaws.{writes-more, streamed-more, counted-more}
 use Rattle.stream.proofs.StoreLaws.{two-stored}
 
@@ -107,6 +104,12 @@ pub call-bytes : (name address depth count : ℕ) (bytes : List ℕ) (vs : List 
 unfolding questionBytes callBytes
 call-bytes name address depth count bytes vs l e = sym (ap₂ (callBytes name address depth) l (sym e))
 
+pub call-sent : {on : Bool} {out out′ : List ℕ} {at r : ℕ} (name address depth count : ℕ) (bytes : List ℕ) (vs : List Val)
+    → Sent on out at (callBytes name address depth count bytes) out′ r → length vs ≡ count → bytes ≡ writes val vs
+    → Sent on out at (questionBytes (callEntry name address depth vs)) out′ r
+call-sent {on} {out} {out′} {at} {r} name address depth count bytes vs t l e =
+    subst (λ (piece : List ℕ). Sent on out at piece out′ r) (call-bytes name address depth count bytes vs l e) t
+
 -- and how they come to be: one value more behind k others
 pub values-more : (area area′ : List ℕ) (vs : List Val) (v : Val) (k : ℕ) → 14 * k + 14 ≤ length area → take (14 * k) area ≡ writes val vs
     → area′ ≡ sets area (14 * k) (valueBytes v) → take (14 * (k + 1)) area′ ≡ writes val (vs ++ v ∷ [])
@@ -120,25 +123,6 @@ values-more area area′ vs v k h e p =
     ∙ ap₂ (λ (xs ys : List ℕ). xs ++ ys) (take-sets b area (14 * k) (14 * k) (omega arith) ∙ e) (ap (take 14) m ∙ take-at b (drop (14 * k + 14) area) 14 refl)
     ∙ ap (λ (r : List ℕ). writes val vs ++ r) (sym (append-nil b))
     ∙ sym (writes-append val vs (v ∷ []))
-
--- ---- the fields hold what they are given: nothing is cut
-
-pub symbol-fits : (kind : Symbol) (name : ℕ) (known : Bool) (number : ℕ) → name < 256 ^ 2 → number < 256 ^ 8 → WrittenFits (written (symbolEntry kind name (optional known number)))
-symbol-fits AddressOf name true number h k = (tt, (h, (lit< tt, k)))
-symbol-fits AddressOf name false number h k = (tt, (h, (lit< tt, lit< tt)))
-symbol-fits SizeOf name true number h k = (tt, (h, (lit< tt, k)))
-symbol-fits SizeOf name false number h k = (tt, (h, (lit< tt, lit< tt)))
-
-le-each : (k n : ℕ) → Each (Below 1) (le k n)
-le-each zero n = tt
-le-each (suc k) n = (omega arith, le-each k (n / 256))
-
-pub read-fits : (address size count number : ℕ) → address < 256 ^ 8 → size < 256 → count < 256 → WrittenFits (written (readEntry address size count number))
-read-fits address size count number h k l = (tt, ((h, k), (rw length-le l, (refl, le-each count number))))
-
-pub call-fits : (name address depth : ℕ) (vs : List Val) → name < 256 ^ 2 → address < 256 ^ 8 → depth < 256 ^ 4 → length vs < 256 → Each ValFits vs
-    → WrittenFits (written (callEntry name address depth vs))
-call-fits name address depth vs a b c d e = (tt, ((a, b, c, d, e), lit< tt))
 
 -- ---- the body
 

@@ -2,7 +2,6 @@
 use mathlib.Core.Path.{_≡_, refl, sym, ap, _∙_}
 use mathlib.Core.Bool.{Bool, true, false}
 use mathlib.Core.List.{List, _++_}
-use mathlib.Core.Option.{none}
 use Prim.Native.Nat.{ℕ, suc, _+_, _-_, _/_, _%_, _≤_, _<_}
 use native.Mathlib.Nat.{add-zero, zero-add}
 use native.Mathlib.Omega.{arith}
@@ -18,14 +17,14 @@ use Rattle.definition.specs.Fields.{flagAndNumber}
 use Rattle.stream.specs.Pieces.{valueBytes, optional}
 use Rattle.stream.specs.Groups.{flaggedBytes}
 
-flag-byte : (b : Bool) → boolByte b ≡ flagOf b
-flag-byte true = refl
-flag-byte false = refl
-
--- two groups, and three and four
+-- two groups of bytes, one behind the other
 pub two-stored : (xs ys s t u : List ℕ) (i j : ℕ) → t ≡ sets s i xs → u ≡ sets t j ys → j ≡ i + length xs → u ≡ sets s i (xs ++ ys)
 two-stored xs ys s t u i j p q e =
     q ∙ ap (λ (k : ℕ). sets t k ys) e ∙ ap (λ (l : List ℕ). sets l (i + length xs) ys) p ∙ sym (sets-append xs ys s i)
+
+flag-byte : (b : Bool) → boolByte b ≡ flagOf b
+flag-byte true = refl
+flag-byte false = refl
 
 pub value-stored : (s t u w x : List ℕ) (at : ℕ) (v : Val) → t ≡ putNumber s at 1 (boolByte (v .known)) → u ≡ putNumber t (at + 1) 1 (boolByte (v .signed))
     → w ≡ putNumber u (at + 2) 4 (v .bits) → x ≡ putNumber w (at + 6) 8 (v .number) → x ≡ sets s at (valueBytes v)

@@ -35,25 +35,19 @@ piece-room false at n l b e h = absurd (never (sym e ∙ h))
     never : false ≡ true → ⊥
     never q = let z : _≡_ {A = ℕ} 0 1 = cc in omega arith
 
+placed-by : (on : Bool) (out piece : List ℕ) (at n : ℕ) (b t : Bool) → length piece ≡ n → b ≡ (on && leb (at + n) (length out)) → b ≡ t
+    → placed on out at piece ≡ cond t (sets out at piece) out
+unfolding placed
+placed-by on out piece at n b t l e h =
+    ap (λ (k : ℕ). cond (on && leb (at + k) (length out)) (sets out at piece) out) l ∙ ap (λ (u : Bool). cond u (sets out at piece) out) (sym e ∙ h)
+
 pub sent-none : (on : Bool) (out piece : List ℕ) (at n r : ℕ) (b : Bool) → length piece ≡ n → b ≡ (on && leb (at + n) (length out)) → b ≡ false → r ≡ advanced at n
     → Sent on out at piece out r
-unfolding placed
-sent-none on out piece at n r b l e h a = record {
-  part =
-      sym (ap (λ (k : ℕ). cond (on && leb (at + k) (length out)) (sets out at piece) out) l
-      ∙ ap (λ (t : Bool). cond t (sets out at piece) out) (sym e ∙ h));
-  cursor = a ∙ ap (advanced at) (sym l);
-}
+sent-none on out piece at n r b l e h a = record { part = sym (placed-by on out piece at n b false l e h); cursor = a ∙ ap (advanced at) (sym l) }
 
 pub sent-piece : (on : Bool) (out piece out′ : List ℕ) (at n r : ℕ) (b : Bool) → length piece ≡ n → b ≡ (on && leb (at + n) (length out)) → b ≡ true
     → out′ ≡ sets out at piece → r ≡ advanced at n → Sent on out at piece out′ r
-unfolding placed
-sent-piece on out piece out′ at n r b l e h p a = record {
-  part =
-      p ∙ sym (ap (λ (k : ℕ). cond (on && leb (at + k) (length out)) (sets out at piece) out) l
-      ∙ ap (λ (t : Bool). cond t (sets out at piece) out) (sym e ∙ h));
-  cursor = a ∙ ap (advanced at) (sym l);
-}
+sent-piece on out piece out′ at n r b l e h p a = record { part = p ∙ sym (placed-by on out piece at n b true l e h); cursor = a ∙ ap (advanced at) (sym l) }
 
 -- its test
 same-test : (a b : Bool) → (a ≡ true → b ≡ true) → (a ≡ false → b ≡ false) → a ≡ b

@@ -1,4 +1,4 @@
-use Rattle.memory.proofs.PartLaws.{put-entry}
+use Rattle.memory.proofs.WriteLaws.{put-entry}
 use borrow.Author.Needs.{needs}
 use Rattle.memory.proofs.put_entry.Statement.{statement}
 use Rattle.memory.proofs.put_entry.Tie as tie

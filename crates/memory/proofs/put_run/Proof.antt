@@ -1,6 +1,6 @@
 use Rattle.memory.specs.Overlay.{runOf}
 use Rattle.memory.specs.Entries.{entry, entrySize}
-use Rattle.memory.proofs.PartLaws.{run-turn}
+use Rattle.memory.proofs.WriteLaws.{run-turn}
 use Rattle.layout.specs.Number.{le}
 use Rattle.layout.specs.Format.{writes}
 use lib.ListN.{length}

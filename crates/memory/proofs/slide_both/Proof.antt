@@ -1,5 +1,5 @@
 use denote.Ref.{now}
-use Rattle.memory.proofs.PartLaws.{both-up, both-down}
+use Rattle.memory.proofs.PieceLaws.{both-up, both-down}
 use borrow.Author.Needs.{needs}
 use Rattle.memory.proofs.slide_both.Statement.{statement}
 use Rattle.memory.proofs.slide_both.Tie as tie

@@ -1,6 +1,6 @@
 use denote.Ref.{now}
-use mathlib.Core.Path.{refl}
-use Rattle.memory.proofs.RunLaws.{too-many}
+use Rattle.layout.proofs.StoreLaws.{each-byte}
+use Rattle.memory.proofs.RunLaws.{replaced}
 use Rattle.memory.proofs.PartLaws.{lent-row, lent-spans}
 use borrow.Author.Needs.{needs}
 use Rattle.memory.proofs.store_run.Statement.{statement}
@@ -27,33 +27,37 @@ span-of-requires c κs =
     let x = f .before .before .before in
     (lent-row (now (x .args .part)) (x .args .count) (f .first-of .result) (f .first-of .ensures) (x .pre .0), (x .pre .1 .0, x .pre .1 .2))
 
-add-next : tie.Need-add-next
-add-next c = search needs
+sub-if1 : tie.Need-sub-if1
+sub-if1 c = search needs
 
-sub-next : tie.Need-sub-next
-sub-next c = search needs
+add-overwrite : tie.Need-add-overwrite
+add-overwrite c = search needs
 
-add-next-2 : tie.Need-add-next-2
-add-next-2 c = search needs
+overwrite-requires : tie.Need-overwrite-requires
+overwrite-requires c κs = search needs
 
 same-length : tie.Need-same-length
 same-length c = search needs
 
 returns : tie.Need-returns
 returns c =
+    let u = c .before .before in
+    let i = u .before .before .before in
+    let s = i .before .before in
+    let f = s .before .before .before in
+    let x = f .before .before .before in
+    let w = lent-spans (now (x .args .part)) (x .args .count) (f .first-of .result) (f .first-of .ensures) (s .span-of .result) (x .args .address) (x .args .bytes) (s .span-of .ensures) in
+    let all = each-byte (now (x .args .part)) (λ k. f .before .before .slice-known .given k .fits) in
+    replaced (now (x .args .part)) (u .overwrite .last .0) (x .args .count) (x .pre .0) all (s .span-of .result) (x .args .address) (x .args .number) (x .args .bytes) w (x .pre .1 .0) (x .pre .1 .2) (i .if1 .taken)
+    (f .first-of .result) (f .first-of .ensures) (u .overwrite .ensures)
+
+insert-requires : tie.Need-insert-requires
+insert-requires c κs =
     let s = c .before .before .before in
     let f = s .before .before .before in
     let x = f .before .before .before in
     let w = lent-spans (now (x .args .part)) (x .args .count) (f .first-of .result) (f .first-of .ensures) (s .span-of .result) (x .args .address) (x .args .bytes) (s .span-of .ensures) in
-    (too-many (now (x .args .part)) (x .args .count) (x .pre .0) (s .span-of .result) (x .args .address) (x .args .number) (x .args .bytes) w (x .pre .1 .2) (c .if1 .taken), refl)
-
-splice-requires : tie.Need-splice-requires
-splice-requires c κs =
-    let s = c .before .before .before .before in
-    let f = s .before .before .before in
-    let x = f .before .before .before in
-    let w = lent-spans (now (x .args .part)) (x .args .count) (f .first-of .result) (f .first-of .ensures) (s .span-of .result) (x .args .address) (x .args .bytes) (s .span-of .ensures) in
-    (x .pre .0, record { span = w; some-bytes = x .pre .1 .0; no-wrap = x .pre .1 .2; few = c .before .if1 .left })
+    ((x .pre .0, w), x .pre .1)
 
 same-length-2 : tie.Need-same-length-2
 same-length-2 c = search needs
@@ -71,11 +75,11 @@ store-run-spec =
     part-span-of-start
     part-span-of-end
     span-of-requires
-    add-next
-    sub-next
-    add-next-2
+    sub-if1
+    add-overwrite
+    overwrite-requires
     same-length
     returns
-    splice-requires
+    insert-requires
     same-length-2
     returns-2)

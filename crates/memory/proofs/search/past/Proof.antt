@@ -4,8 +4,8 @@ use native.Mathlib.Omega.{arith}
 use denote.Ref.{now}
 use Rattle.memory.specs.Overlay.{rank}
 use Rattle.memory.specs.Entries.{rowOf}
-use Rattle.memory.proofs.row.past.Statement.{statement}
-use Rattle.memory.proofs.row.past.Tie as tie
+use Rattle.memory.proofs.search.past.Statement.{statement}
+use Rattle.memory.proofs.search.past.Tie as tie
 
 abbrev Inv-loop : tie.InvT-loop
 Inv-loop row count from last i₀ i = i ≤ rank (suc last) (rowOf row count)
