@@ -5,7 +5,7 @@ use Prim.Native.Nat.{ℕ}
 use Rattle.value.specs.declared.Val.{Val}
 use Rattle.layout.specs.Number.{numberAt}
 use Rattle.value.specs.Operators.{operandsOf, arithmetic, division, bitwise, truth, order, test, shift, binaryOf}
-use Rattle.value.specs.Spelling.{is, dropped, signedWord, unsignedWord, alone, two, typeOf}
+use Rattle.spelling.specs.Spelling.{is, dropped, signedWord, unsignedWord, alone, two, typeOf}
 use Rattle.files.specs.Blocks.{statementOk, statementsOk, blockOk, blockAt, blocksIn}
 use Rattle.files.specs.Call.{callBodyOk, limitsOf}
 use Rattle.files.specs.FileTable.{body, startOf, bodyOk, tableOk}

@@ -11,7 +11,7 @@ use Rattle.value.specs.declared.Answer.{Answer}
 use Rattle.value.specs.declared.Answer.the-variants.{Value, DivisionByZero}
 use Rattle.value.specs.Value.{type, typeOfVal, knownVal, unknownVal, castTo}
 use Rattle.value.specs.Operators.{operatorOf, binaryOf}
-use Rattle.value.specs.Spelling.{typeOf, endsStar, beforeStar}
+use Rattle.spelling.specs.Spelling.{typeOf, endsStar, beforeStar}
 use Rattle.definition.specs.Question.{addressOf, sizeOf}
 use Rattle.definition.specs.Act.{Act, done, fail, ask, get, set, pending, leave, _>>=_, _>>_, structTo, unknownAddress, noWidth, storeTo, byZero, Note, noNote, fieldsWritten, valueWritten, resultUnknown, Pending}
 use Rattle.files.specs.Program.{Kind, Constant, Var, Register, StringLiteral, FunctionName, ConditionTrue, ConditionFalse, ConstantCondition, Cast, Deref, AddressOf, Ternary, Binary, Assign, Call, Intrinsic, Return, StructInit, Field, Plain, kindNumbered, Node, Tree, tree, Trees, nil, cons}

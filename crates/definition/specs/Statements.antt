@@ -6,7 +6,7 @@ use Prim.Native.Nat.{ℕ}
 use lib.ListN.{getD}
 use lib.Dec.{eqb}
 use Rattle.value.specs.declared.Val.{Val}
-use Rattle.value.specs.Spelling.{typeOf}
+use Rattle.spelling.specs.Spelling.{typeOf}
 use Rattle.value.specs.Value.{castTo}
 use Rattle.layout.specs.Text.{text, same}
 use Rattle.definition.specs.Act.{Act, done, pending, leave, emit, End, gave, stopped, try, _>>=_, Why, Note, noNote, fieldsWritten, valueWritten, resultUnknown, notFollowed, Pending}

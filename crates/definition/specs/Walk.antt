@@ -9,7 +9,7 @@ use lib.Dec.{ltb, eqb}
 use Rattle.value.specs.declared.Ty.{Ty}
 use Rattle.value.specs.declared.Val.{Val}
 use Rattle.value.specs.Width.{residue}
-use Rattle.value.specs.Spelling.{typeOf}
+use Rattle.spelling.specs.Spelling.{typeOf}
 use Rattle.value.specs.Value.{type, readAs, unknownVal, castTo}
 use Rattle.memory.specs.Overlay.{Overlay, find, store}
 use Rattle.definition.specs.Act.{Act, done, fail, ask, spend, End, gave, stopped, try, _>>=_, branchUnknown, switchUnknown, noCase}

@@ -1,11 +1,11 @@
 // Rows that hold operands and answer. A value has 10 bytes: flags u8 (1 known, 2 signed, 4 a division by zero), width u8, number u64.
 ghost use Prim.Native.Nat.{_+_, _≤_};
 ghost use lib.ListN.{length};
+use spelling::Pointee;
 use value::Answer;
 use value::BinaryOp;
 use value::Ty;
 use value::Val;
-use value::spelling::Pointee;
 
 pub const MIXED: u64 = 4000;
 
@@ -109,11 +109,11 @@ fn type_row(row: &[u8]) -> bool {
         return false;
     }
     let spelling = &row[1..end];
-    let points = match value::spelling::points_at(spelling) {
+    let points = match spelling::points_at(spelling) {
         Pointee::Of(ty) => is_type(ty, row[67], row[68]),
         Pointee::NoPointer => row[67] == 0,
     };
-    is_type(value::spelling::type_of(spelling), row[65], row[66]) & points
+    is_type(spelling::type_of(spelling), row[65], row[66]) & points
 }
 
 fn next_type(fd: i32) -> bool {

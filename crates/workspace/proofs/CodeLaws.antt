@@ -9,10 +9,10 @@ use mir.Val.{boolByte}
 use lib.Dec.{eqb}
 use Rattle.layout.specs.Format.{flagOf, boolOf}
 use Rattle.value.specs.declared.Ty.{Ty}
-use Rattle.value.specs.declared.spelling.Pointee.{Pointee}
-use Rattle.value.specs.declared.spelling.Pointee.the-variants.{Of, NoPointer}
+use Rattle.spelling.specs.declared.Pointee.{Pointee}
+use Rattle.spelling.specs.declared.Pointee.the-variants.{Of, NoPointer}
 use Rattle.value.specs.Value.{type}
-use Rattle.value.specs.Spelling.{is, isBool, isWideSigned, isWideUnsigned, isShortInt, signedWord, unsignedWord, alone, two, named, anyUnsigned, pieces, baseOf, endsStar, beforeStar, typeOf, pointeeOf}
+use Rattle.spelling.specs.Spelling.{is, isBool, isWideSigned, isWideUnsigned, isShortInt, signedWord, unsignedWord, alone, two, named, anyUnsigned, pieces, baseOf, endsStar, beforeStar, typeOf, pointeeOf}
 use Rattle.workspace.specs.Types.{codeOf, typeOfCode, codeIf, typeIfCode, Coded, CodedIf}
 use Rattle.workspace.specs.Post.{pointedAt}
 use Rattle.workspace.proofs.ValueLaws.{flag-read, flag-written}

@@ -11,7 +11,7 @@ use lib.Seq.{sets, length-sets, take-take, drop-drop, length-take-le}
 use Rattle.layout.specs.Number.{le, num, numberAt, putNumber}
 use Rattle.layout.proofs.StoreLaws.{take-sets}
 use Rattle.value.specs.declared.Ty.{Ty}
-use Rattle.value.specs.declared.spelling.Pointee.the-variants.{Of, NoPointer}
+use Rattle.spelling.specs.declared.Pointee.the-variants.{Of, NoPointer}
 use Rattle.memory.proofs.OverlayLaws.{below, equal, above, compared}
 use Rattle.workspace.specs.Parts.{part, workspaceSize, memorySize, framePlace, frameSize, notePlace, noteSize, tablesPlace, memoryPart, framePart, notePart, tables, declaredSize, typesPlace, typesSize, symbolsPlace, symbolsSize, regionsPlace, regionsSize, blocksPlace, blocksSize, declaredPart, typesPart, symbolsPart, regionsPart, blocksPart}
 use Rattle.workspace.specs.Variables.{nameLimit}

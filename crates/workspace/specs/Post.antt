@@ -7,8 +7,8 @@ use lib.ListN.{length}
 use lib.Seq.{sets}
 use Rattle.value.specs.declared.Val.{Val}
 use Rattle.value.specs.declared.Ty.{Ty}
-use Rattle.value.specs.declared.spelling.Pointee.{Pointee}
-use Rattle.value.specs.declared.spelling.Pointee.the-variants.{Of, NoPointer}
+use Rattle.spelling.specs.declared.Pointee.{Pointee}
+use Rattle.spelling.specs.declared.Pointee.the-variants.{Of, NoPointer}
 use Rattle.memory.specs.Overlay.{Overlay, Cell, stores}
 use Rattle.memory.specs.Entries.{limit}
 use Rattle.memory.specs.declared.Stored.{Stored}

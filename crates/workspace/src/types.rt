@@ -8,8 +8,8 @@ ghost use Rattle.workspace.specs.Types.{typeLimit, codeOf, codeIf, typeO
 ghost use Rattle.workspace.specs.Post.{declarationAs, pointeeAs, pointedAt, Declares, PutsType};
 use super::DECLARED;
 use super::TYPES;
+use spelling::Pointee;
 use value::Ty;
-use value::spelling::Pointee;
 
 // What a name is declared with.
 pub enum Declaration {

@@ -1,0 +1,18 @@
+use Rattle.spelling.specs.Spelling.{is}
+use borrow.Author.Needs.{needs}
+use Rattle.spelling.proofs.is_short_int.Statement.{statement}
+use Rattle.spelling.proofs.is_short_int.Tie as tie
+
+returns : tie.Need-returns
+unfolding is
+returns c = cc
+
+pub is-short-int-spec : {M : Type 1} → statement M
+is-short-int-spec =
+    tie.close
+    (tie.spec
+    (λ c. search needs)
+    (λ c κs. search needs)
+    (λ c. search needs)
+    (λ c κs. search needs)
+    returns)

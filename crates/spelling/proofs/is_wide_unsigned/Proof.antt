@@ -1,0 +1,20 @@
+use Rattle.spelling.specs.Spelling.{is}
+use borrow.Author.Needs.{needs}
+use Rattle.spelling.proofs.is_wide_unsigned.Statement.{statement}
+use Rattle.spelling.proofs.is_wide_unsigned.Tie as tie
+
+returns : tie.Need-returns
+unfolding is
+returns c = cc
+
+pub is-wide-unsigned-spec : {M : Type 1} → statement M
+is-wide-unsigned-spec =
+    tie.close
+    (tie.spec
+    (λ c. search needs)
+    (λ c κs. search needs)
+    (λ c. search needs)
+    (λ c κs. search needs)
+    (λ c. search needs)
+    (λ c κs. search needs)
+    returns)
