@@ -1,0 +1,11 @@
+pub mod Ranks
+pub mod Evaluating
+pub mod Answering
+pub mod Pointing
+pub mod Assigning
+pub mod Storing
+pub mod Calling
+pub mod Working
+pub mod Asking
+pub mod Naming
+pub mod Taking

@@ -1,0 +1,30 @@
+use borrow.Author.Needs.{needs}
+use Rattle.workspace.proofs.LendLaws.{symbols-lent}
+use Rattle.machine.proofs.Asking.{address-asks}
+use Rattle.machine.proofs.Naming.{symbol-inside}
+use Rattle.machine.proofs.names.ask_address.Statement.{statement}
+use Rattle.machine.proofs.names.ask_address.Tie as tie
+
+address-of-requires : tie.Need-address-of-requires
+address-of-requires c κs =
+    let s : tie.Start = c .before .before .before .before .before .before in
+    symbol-inside (s .pre .1 .1 .0) (s .pre .1 .1 .1) (c .before .reference .ensures .0) _ (s .pre .1 .0)
+
+returns : tie.Need-returns
+returns c =
+    let p : tie.After-part = c .before .before .before .before .before in
+    let s : tie.Start = p .before .before .before .before .before .before in
+    address-asks _ _ _ _ _ _ _ _ _ _ _ _ (s .pre .1 .1 .0) (s .pre .1 .1 .1) (p .before .reference .ensures .0) (symbols-lent _) (c .before .before .before .before .address-of .ensures) (c .before .before .tell .ensures)
+
+pub ask-address-spec : {M : Type 1} → statement M
+ask-address-spec =
+    tie.close
+    (tie.spec
+    (λ c κs. search needs)
+    (λ c. search needs)
+    (λ c. search needs)
+    (λ c. search needs)
+    address-of-requires
+    (λ c κs. search needs)
+    (λ c. search needs)
+    returns)

@@ -1,0 +1,18 @@
+use Rattle.machine.proofs.Answering.{constant-gives}
+use borrow.Author.Needs.{needs}
+use Rattle.machine.proofs.values.constant.Statement.{statement}
+use Rattle.machine.proofs.values.constant.Tie as tie
+
+returns : tie.Need-returns
+returns c = search (needs, constant-gives)
+
+pub constant-spec : {M : Type 1} → statement M
+constant-spec =
+    tie.close
+    (tie.spec
+    (λ c κs. search needs)
+    (λ c κs. search needs)
+    (λ c. search needs)
+    (λ c κs. search needs)
+    (λ c κs. search needs)
+    returns)

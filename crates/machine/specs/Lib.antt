@@ -1,0 +1,4 @@
+pub mod Post
+pub mod Steps
+pub mod Asking
+pub mod Taking
