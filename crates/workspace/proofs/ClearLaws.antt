@@ -18,19 +18,19 @@ use Rattle.workspace.specs.Post.{Cleared}
 use Rattle.workspace.proofs.VariableLaws.{those-none}
 use Rattle.workspace.proofs.CodeLaws.{no-code}
 
-abbrev Zeros : List ℕ → Type 0
+abbrev pub Zeros : List ℕ → Type 0
 Zeros s = Each (λ b. b ≡ 0) s
 
-zeros-replicate : (n : ℕ) → Zeros (replicate n 0)
+pub zeros-replicate : (n : ℕ) → Zeros (replicate n 0)
 zeros-replicate zero = tt
 zeros-replicate (suc n) = (refl, zeros-replicate n)
 
-zeros-take : (n : ℕ) (s : List ℕ) → Zeros s → Zeros (take n s)
+pub zeros-take : (n : ℕ) (s : List ℕ) → Zeros s → Zeros (take n s)
 zeros-take zero s z = tt
 zeros-take (suc n) [] z = tt
 zeros-take (suc n) (b ∷ s) z = (z .0, zeros-take n s (z .1))
 
-zeros-drop : (n : ℕ) (s : List ℕ) → Zeros s → Zeros (drop n s)
+pub zeros-drop : (n : ℕ) (s : List ℕ) → Zeros s → Zeros (drop n s)
 zeros-drop zero s z = z
 zeros-drop (suc n) [] z = tt
 zeros-drop (suc n) (b ∷ s) z = zeros-drop n s (z .1)
@@ -47,11 +47,11 @@ slot-none : (f : List ℕ) (x : ℕ) → Zeros f → slotAt f x ≡ none
 unfolding slotAt
 slot-none f x z = rw (zeros-number f (x * slotSize) 1 z, slotAt)
 
-variables-none : (f : List ℕ) → Zeros f → variablesIn f ≡ []
+pub variables-none : (f : List ℕ) → Zeros f → variablesIn f ≡ []
 unfolding variablesIn
 variables-none f z = those-none (slotAt f) 0 nameLimit (λ x. slot-none f x z)
 
-pending-none : (p : List ℕ) → Zeros p → pendingIn p ≡ none
+pub pending-none : (p : List ℕ) → Zeros p → pendingIn p ≡ none
 unfolding pendingIn
 pending-none p z = rw (zeros-number p 0 1 z, pendingIn)
 
@@ -59,11 +59,11 @@ declared-none : (t : List ℕ) (x : ℕ) → Zeros t → declaredAt t x ≡ none
 unfolding declaredAt declaredPart
 declared-none t x z = no-code (numberAt (declaredPart t) x 1) (zeros-number (declaredPart t) x 1 (zeros-take declaredSize t z))
 
-entries-none : (s : List ℕ) → entries s 0 ≡ []
+pub entries-none : (s : List ℕ) → entries s 0 ≡ []
 unfolding entries rowOf
 entries-none s = refl
 
-sorted-none : (s : List ℕ) → memorySize ≤ length s → Sorted s 0
+pub sorted-none : (s : List ℕ) → memorySize ≤ length s → Sorted s 0
 unfolding first
 sorted-none s h = record { room = h; placed = omega arith; ascending = rw (entries-none s) tt }
 

@@ -72,11 +72,11 @@ before-within f x h =
 
 -- ---- what a slot says
 
-set-is : (o : Option Val) (v : Val) → Set v ≡ slotAs o → o ≡ some v
+pub set-is : (o : Option Val) (v : Val) → Set v ≡ slotAs o → o ≡ some v
 set-is none v e = let z : _≡_ {A = ℕ} 0 1 = cc in absurd (omega arith)
 set-is (some u) v e = cc
 
-unset-is : (o : Option Val) → Unset ≡ slotAs o → o ≡ none
+pub unset-is : (o : Option Val) → Unset ≡ slotAs o → o ≡ none
 unset-is none e = refl
 unset-is (some u) e = let z : _≡_ {A = ℕ} 0 1 = cc in absurd (omega arith)
 

@@ -1,0 +1,14 @@
+pub mod Following
+pub mod TypeLaws
+pub mod TextWalk
+pub mod NameSearch
+pub mod SpellLaws
+pub mod Standing
+pub mod Rooting
+pub mod HeadLaws
+pub mod DeclareLaws
+pub mod SettingLaws
+pub mod EmptyLaws
+pub mod IndexParts
+pub mod BodyFacts
+pub mod Readying

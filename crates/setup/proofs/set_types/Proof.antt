@@ -1,0 +1,26 @@
+-- `set_types` meets its contract. Assumes nothing.
+use Rattle.files.proofs.Accepted.{routine-body}
+use Rattle.setup.proofs.BodyFacts.{types-texts}
+use Rattle.setup.proofs.Readying.{types-set, types-size}
+use borrow.Author.Needs.{needs}
+use Rattle.setup.proofs.set_types.Statement.{statement}
+use Rattle.setup.proofs.set_types.Tie as tie
+
+clear-requires : tie.Need-clear-requires
+clear-requires c κs = search needs
+
+body-requires : tie.Need-body-requires
+body-requires c κs = search (needs, routine-body)
+
+put-types-requires : tie.Need-put-types-requires
+put-types-requires c κs = search (needs, types-texts)
+
+same-length : tie.Need-same-length
+same-length c = search needs
+
+returns : tie.Need-returns
+returns c = search (needs, types-set, types-size)
+
+pub set-types-spec : {M : Type 1} → statement M
+set-types-spec =
+    tie.close (tie.spec clear-requires body-requires put-types-requires same-length returns)
