@@ -1,0 +1,182 @@
+-- What a unit buys, as runs on the code's host. Assumes nothing.
+use mathlib.Core.Path.{_≡_, refl, sym, ap, ap₂, _∙_, subst}
+use mathlib.Core.Bool.{Bool, true, false}
+use mathlib.Core.List.{List}
+use mathlib.Core.Option.{Option, none, some}
+use Prim.Native.Nat.{ℕ, zero, suc, _+_, _-_, _*_, _≤_, _<_}
+use native.Mathlib.Numerals.{add-one}
+use native.Mathlib.Omega.{arith}
+use borrow.Author.Tests.{lt-ltb, le-ltb}
+use lib.Dec.{ltb}
+use lib.ListN.{length, getD}
+use Rattle.layout.specs.Number.{numberAt}
+use Rattle.files.specs.Program.{Program, treeAt, statementAt}
+use Rattle.definition.specs.Act.{Act, done, _>>=_}
+use Rattle.definition.specs.Evaluate.{Env}
+use Rattle.definition.specs.Statements as statements
+use Rattle.definition.specs.Walk as walk
+use Rattle.index.specs.declared.blocks.Place.{Place}
+use Rattle.index.specs.Blocks.{Placed}
+use Rattle.index.proofs.BlockPlaces.{listed-length}
+use Rattle.hosting.specs.declared.Counts.{Counts}
+use Rattle.hosting.specs.declared.Tally.{Tally}
+use Rattle.hosting.specs.declared.Facts.{Facts}
+use Rattle.hosting.specs.declared.Stop.{Stop}
+use Rattle.hosting.specs.Stands.{Stands}
+use Rattle.hosting.specs.Scene.{Given, Scene, Ready}
+use Rattle.hosting.specs.Held.{paidTally}
+use Rattle.hosting.specs.Ending.{Ending, ended, short}
+use Rattle.hosting.specs.Runs.{Kept, Runs}
+use Rattle.hosting.specs.Routine.{Rooted}
+use Rattle.hosting.specs.Walking.{stopEnd}
+use Rattle.hosting.proofs.Running.{goes, halts, acts, done-runs}
+use Rattle.hosting.proofs.Keeping.{kept-ready}
+use Rattle.walk.specs.declared.Spot.{Spot}
+use Rattle.walk.specs.declared.Next.{Next}
+use Rattle.walk.specs.declared.Next.the-variants.{Stops, Goes}
+use Rattle.walk.specs.declared.Moved.{Moved}
+use Rattle.walk.specs.declared.statements.Halt.{Halt}
+use Rattle.walk.specs.declared.statements.Halt.the-variants.{Not, With}
+use Rattle.walk.specs.declared.statements.Stepped.{Stepped}
+use Rattle.walk.specs.Endings.{haltEnd, someEnd, stopsEnd}
+use Rattle.walk.specs.Placing.{Placing, Here, PlacedAt}
+use Rattle.walk.specs.Units.{paidCounts}
+use Rattle.walk.specs.Post.{RunsStatement, blockOf, Outside, Terminates, Stays, Settles, RunsOn, UnitOf}
+
+-- ---- before a statement of a block
+
+-- so many statements are in a block
+block-length : (nodes ss blocks : List ℕ) (p : Place) → length (blockOf nodes ss blocks p .statements) ≡ numberAt blocks (p .start) 2
+block-length nodes ss blocks p = listed-length (statementAt nodes ss) (p .first) (numberAt blocks (p .start) 2)
+
+settle-by : (E : Env) (nodes ss blocks : List ℕ) (p : Place) (b k : ℕ) (t : Bool) → ltb k (numberAt blocks (p .start) 2) ≡ t
+    → walk.settle E b (blockOf nodes ss blocks p) k
+    ≡ elim t [ true ↦ done (walk.goes (walk.within b k)) | false ↦ walk.terminate E (blockOf nodes ss blocks p .statements) (blockOf nodes ss blocks p .terminator) ]
+unfolding walk.settle
+settle-by E nodes ss blocks p b k t e =
+    ap (λ (z : Bool). elim z [ true ↦ done (walk.goes (walk.within b k)) | false ↦ walk.terminate E (blockOf nodes ss blocks p .statements) (blockOf nodes ss blocks p .terminator) ])
+    (ap (ltb k) (block-length nodes ss blocks p) ∙ e)
+
+outside-stays : (blocks : List ℕ) (p : Place) (b : ℕ) (n : Next) → Outside n → Stays blocks p b n
+outside-stays blocks p b (Stops s) h = tt
+outside-stays blocks p b (Goes s) h = λ e. absurd (let z : _≡_ {A = ℕ} 0 1 = cc in omega arith)
+
+module _ {g : Given} {ss blocks : List ℕ} {p : Place} {b k n : ℕ} (count : (n ≡ numberAt blocks (p .start) 2) × (n < 65536)) where
+  pub settles-within : {w o : List ℕ} {a : Counts} → k < n → Ready g w a → Settles g ss blocks p b k w o a (record { next = Goes (record { block = b; statement = k; inside = true }); at = a }) w o
+  settles-within l r = record {
+    runs = λ limit. acts (λ x h. settle-by (x .env) (g .nodes) ss blocks p b k true (lt-ltb k (numberAt blocks (p .start) 2) (omega (arith, count .0)))) (done-runs (λ x. walk.goes (walk.within b k)) (λ x h. refl) r);
+    stays = λ e. (refl, omega (arith, count .0));
+  }
+
+  pub settles-past : {w₀ o₀ w o : List ℕ} {a₀ : Counts} {r : Moved} → n ≤ k → Terminates g ss blocks p w₀ o₀ a₀ r w o → Settles g ss blocks p b k w₀ o₀ a₀ r w o
+  settles-past {r = r} l t = record {
+    runs = λ limit. acts (λ x h. settle-by (x .env) (g .nodes) ss blocks p b k false (le-ltb k (numberAt blocks (p .start) 2) (omega (arith, count .0)))) (t .runs limit);
+    stays = outside-stays blocks p b (r .next) (t .outside);
+  }
+
+-- ---- after a statement
+
+pub statement-inside : {nodes ss blocks : List ℕ} {p : Place} {k : ℕ} → Placing nodes ss blocks p → Here blocks p k → (p .first + k) * 13 + 13 ≤ length ss
+statement-inside all h = omega (arith, all .dealt .dealt, h .below)
+
+pub on-ready : {g : Given} {ss : List ℕ} {f : Facts} {b k : ℕ} {w₀ o₀ w o : List ℕ} {a₀ : Counts} {r : Stepped} → RunsStatement g ss f b k w₀ o₀ a₀ r w o → r .halt ≡ Not → Ready g w (r .at)
+on-ready {g} {w = w} {r = r} x e = subst (λ (h : Halt). Kept (haltEnd 0 h) (Ready g w (r .at))) e (x .ready)
+
+stopped-runs : {g : Given} {m : Scene → Act (Option statements.Stop)} (f : Scene → Option statements.Stop → Act walk.Next) {w₀ o₀ w o : List ℕ} {a₀ a : Counts} (e : Ending statements.Stop)
+    → ((x : Scene) (s : statements.Stop) → f x (some s) ≡ done (walk.stops s)) → Runs g m w₀ o₀ a₀ (someEnd e) w o a → Runs g (λ x. m x >>= f x) w₀ o₀ a₀ (stopsEnd e) w o a
+stopped-runs f (ended s) h r = goes f r (acts (λ x d. h x s) (done-runs (λ x. walk.stops s) (λ x d. refl) (r .ready)))
+stopped-runs f (short y) h r = halts f y r
+
+stopped-ready : (F : Type 0) (e : Ending statements.Stop) → Kept (someEnd e) F → Kept (stopsEnd e) F
+stopped-ready F (ended s) h = h
+stopped-ready F (short none) h = tt
+stopped-ready F (short (some y)) h = h
+
+module _ {g : Given} {ss blocks : List ℕ} {f : Facts} {p : Place} {b k : ℕ} {w₀ o₀ w o : List ℕ} {a₀ : Counts} {r : Stepped} (ran : RunsStatement g ss f b (p .first + k) w₀ o₀ a₀ r w o) where
+  pub stops-on : {stop : Stop} → r .halt ≡ With stop → RunsOn g ss blocks f p b k w₀ o₀ a₀ (record { next = Stops stop; at = r .at }) w o
+  stops-on {stop} e = record {
+    runs = λ P named limit.
+        stopped-runs (λ x. walk.onward (x .env) b (blockOf (g .nodes) ss blocks p) k) (stopEnd limit stop) (λ x s. refl)
+        (subst (λ (h : Halt). Runs g (λ x. statements.runStatement P (x .env) b (statementAt (g .nodes) ss (p .first + k))) w₀ o₀ a₀ (haltEnd limit h) w o (r .at)) e (ran .runs P named limit));
+    ready = stopped-ready (Ready g w (r .at)) (stopEnd 0 stop) (subst (λ (h : Halt). Kept (haltEnd 0 h) (Ready g w (r .at))) e (ran .ready));
+    stays = tt;
+  }
+
+  pub goes-on : {w′ o′ : List ℕ} {q : Moved} → r .halt ≡ Not → Settles g ss blocks p b (k + 1) w o (r .at) q w′ o′ → RunsOn g ss blocks f p b k w₀ o₀ a₀ q w′ o′
+  goes-on {q = q} e s = record {
+    runs = λ P named limit.
+        goes (λ x. walk.onward (x .env) b (blockOf (g .nodes) ss blocks p) k)
+        (subst (λ (h : Halt). Runs g (λ x. statements.runStatement P (x .env) b (statementAt (g .nodes) ss (p .first + k))) w₀ o₀ a₀ (haltEnd limit h) w o (r .at)) e (ran .runs P named limit))
+        (acts (λ x h. ap (walk.settle (x .env) b (blockOf (g .nodes) ss blocks p)) (sym (add-one k))) (s .runs limit));
+    ready = s .runs 0 .ready;
+    stays = s .stays;
+  }
+
+-- ---- either
+
+-- what is bought, by whether the spot is in a block
+abbrev actBy : Program → Env → (nodes ss blocks : List ℕ) → Place → (b k : ℕ) → Bool → Act walk.Next
+actBy P E nodes ss blocks p b k i = elim i [
+  | true ↦ statements.runStatement P E b (statementAt nodes ss (p .first + k)) >>= walk.onward E b (blockOf nodes ss blocks p) k
+  | false ↦ walk.settle E b (blockOf nodes ss blocks p) 0
+]
+
+module _ {g : Given} {ss blocks : List ℕ} {f : Facts} {p : Place} {s : Spot} {w₀ o₀ w o : List ℕ} {a₀ : Counts} {r : Moved} where
+  pub unit-runs : s .inside ≡ true → RunsOn g ss blocks f p (s .block) (s .statement) w₀ o₀ a₀ r w o → UnitOf g ss blocks f p s w₀ o₀ a₀ r w o
+  unit-runs e q = record {
+    runs = λ P named limit. acts (λ x h. ap (actBy P (x .env) (g .nodes) ss blocks p (s .block) (s .statement)) e) (q .runs P named limit);
+    ready = q .ready;
+    stays = q .stays;
+  }
+
+  pub unit-settles : s .inside ≡ false → Settles g ss blocks p (s .block) 0 w₀ o₀ a₀ r w o → UnitOf g ss blocks f p s w₀ o₀ a₀ r w o
+  unit-settles e q = record {
+    runs = λ P named limit. acts (λ x h. ap (actBy P (x .env) (g .nodes) ss blocks p (s .block) (s .statement)) e) (q .runs limit);
+    ready = q .runs 0 .ready;
+    stays = q .stays;
+  }
+
+-- ---- the block of a spot
+
+pub placing : {nodes ss blocks part : List ℕ} {count k : ℕ} {p : Place} → Rooted nodes ss blocks part count → Placed part k p → k < count → Placing nodes ss blocks p
+placing {nodes} {ss} {blocks} {k = k} {p = p} all is l =
+    let q = is .is blocks _ (all .indexed) l in
+    record {
+      dealt = record { inside = q .inside; dealt = omega (arith, all .dealt k l, q .first, ap (λ (i : ℕ). numberAt blocks i 2) (q .start)) };
+      roots = record { roots = all .roots };
+      root = subst (λ (i : ℕ). 2 ≤ getD blocks (i + 2) 0 → Stands nodes (numberAt blocks (i + 12) 4) (treeAt nodes (numberAt blocks (i + 12) 4))) (sym (q .start)) (all .ends k l);
+    }
+
+pub here-at : {nodes ss blocks part : List ℕ} {count : ℕ} {s : Spot} {p : Place} → Rooted nodes ss blocks part count → Placed part (s .block) p → s .block < count → PlacedAt blocks count s
+    → s .inside ≡ true → Here blocks p (s .statement)
+here-at {blocks = blocks} all is l at e = let q = is .is blocks _ (all .indexed) l in record { below = omega (arith, at .here e, ap (λ (i : ℕ). numberAt blocks i 2) (q .start)) }
+
+-- ---- a unit is paid
+
+paid-with : (n : ℕ) (b : Bool) (t : Tally) → 0 < n
+    → paidTally n b t ≡ elim b [
+      | true ↦ record { recorded = t .recorded; asked = t .asked; left = n - 1; entered = t .entered + 1; steps = t .steps }
+      | false ↦ record { recorded = t .recorded; asked = t .asked; left = n - 1; entered = t .entered; steps = t .steps + 1 }
+    ]
+paid-with zero b t h = absurd (omega arith)
+paid-with (suc n) true t h =
+    let z : n ≡ suc n - 1 = omega arith in
+    ap₂ (λ (l e : ℕ). record { recorded = t .recorded; asked = t .asked; left = l; entered = e; steps = t .steps }) z (sym (add-one (t .entered)))
+paid-with (suc n) false t h =
+    let z : n ≡ suc n - 1 = omega arith in
+    ap₂ (λ (l e : ℕ). record { recorded = t .recorded; asked = t .asked; left = l; entered = t .entered; steps = e }) z (sym (add-one (t .steps)))
+
+abbrev countsWith : Counts → Tally → Counts
+countsWith a t = record { stored = a .stored; tally = t }
+
+module _ (a : Counts) {b : Bool} (some : 0 < a .tally .left) where
+  pub paid-block : b ≡ true
+      → countsWith a (record { recorded = a .tally .recorded; asked = a .tally .asked; left = a .tally .left - 1; entered = a .tally .entered + 1; steps = a .tally .steps }) ≡ paidCounts b a
+  paid-block e = sym (ap (λ (z : Bool). paidCounts z a) e ∙ ap (countsWith a) (paid-with (a .tally .left) true (a .tally) some))
+
+  pub paid-statement : b ≡ false
+      → countsWith a (record { recorded = a .tally .recorded; asked = a .tally .asked; left = a .tally .left - 1; entered = a .tally .entered; steps = a .tally .steps + 1 }) ≡ paidCounts b a
+  paid-statement e = sym (ap (λ (z : Bool). paidCounts z a) e ∙ ap (countsWith a) (paid-with (a .tally .left) false (a .tally) some))
+
+pub paid-ready : {g : Given} {w : List ℕ} (a : Counts) {paid : Counts} (b : Bool) → paid ≡ paidCounts b a → Ready g w a → Ready g w paid
+paid-ready {g} {w} a b e r = subst (λ (c : Counts). Ready g w c) (sym e) (kept-ready refl (r .fit) r)

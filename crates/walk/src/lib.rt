@@ -1,0 +1,398 @@
+// The walk over a routine's blocks, one unit at a time: a block is entered or a statement run, and the terminator that follows costs nothing.
+ghost use mathlib.Core.Path.{_≡_};
+ghost use mathlib.Core.Bool.{true};
+ghost use Prim.Native.Nat.{_+_, _<_};
+ghost use Rattle.workspace.specs.Parts.{tables, blocksPart};
+ghost use Rattle.hosting.specs.Scene.{given, Ready};
+ghost use Rattle.hosting.specs.Routine.{Rooted};
+ghost use Rattle.hosting.specs.Walking.{WalksAll};
+ghost use Rattle.walk.specs.Placing.{Placing, PlacedAt, Here};
+ghost use Rattle.walk.specs.Units.{Balanced, paidCounts, withUnits};
+ghost use Rattle.walk.specs.Post.{Settles, RunsOn, UnitOf, Turns, WalksFrom};
+
+mod maybe;
+mod statements;
+mod steps;
+pub mod stops;
+mod terminators;
+
+use hosting::Counts;
+use hosting::Facts;
+use hosting::How;
+use hosting::Stop;
+use hosting::Tally;
+use hosting::Walked;
+use index::blocks::Place;
+use statements::Halt;
+
+// Where the walk is: about to enter a block, or before a statement of it.
+pub struct Spot {
+    pub block: usize,
+    pub statement: usize,
+    pub inside: bool,
+}
+
+pub enum Next {
+    Stops(Stop),
+    Goes(Spot),
+}
+
+pub struct Moved {
+    pub next: Next,
+    pub at: Counts,
+}
+
+// Before a statement of the block at a place: it is there, or the terminator comes, at no cost.
+fn settle(
+    nodes: &[u8],
+    statements: &[u8],
+    blocks: &[u8],
+    symbols: &[u8],
+    regions: &[u8],
+    ws: &mut [u8],
+    out: &mut [u8],
+    how: How,
+    place: Place,
+    block: usize,
+    k: usize,
+    at: Counts,
+) -> Moved
+    requires { ⌜ Ready (given (now nodes) (now symbols) (now regions) how) (now ws) at ⌝ }
+    requires { ⌜ Placing (now nodes) (now statements) (now blocks) place ⌝ }
+    ensures { λ r. ⌜ Settles (given (now (nodes .entry)) (now (symbols .entry)) (now (regions .entry)) how) (now (statements .entry)) (now (blocks .entry)) place block k (now (ws .entry)) (now (out .entry)) at r (now (ws .exit)) (now (out .exit)) ⌝ }
+{
+    if k < index::blocks::statement_count(blocks, place.start) {
+        return Moved {
+            next: Next::Goes(Spot {
+                block,
+                statement: k,
+                inside: true,
+            }),
+            at,
+        };
+    }
+    terminators::terminate(
+        nodes,
+        statements,
+        blocks,
+        symbols,
+        regions,
+        ws,
+        out,
+        how,
+        place,
+        at,
+    )
+}
+
+// Statement k of the block at a place, and what comes after it.
+fn run_on(
+    nodes: &[u8],
+    statements: &[u8],
+    blocks: &[u8],
+    symbols: &[u8],
+    regions: &[u8],
+    ws: &mut [u8],
+    out: &mut [u8],
+    how: How,
+    facts: Facts,
+    place: Place,
+    block: usize,
+    k: usize,
+    at: Counts,
+) -> Moved
+    requires { ⌜ Ready (given (now nodes) (now symbols) (now regions) how) (now ws) at ⌝ }
+    requires { ⌜ (Placing (now nodes) (now statements) (now blocks) place) × Here (now blocks) place k ⌝ }
+    ensures { λ r. ⌜ RunsOn (given (now (nodes .entry)) (now (symbols .entry)) (now (regions .entry)) how) (now (statements .entry)) (now (blocks .entry)) facts place block k (now (ws .entry)) (now (out .entry)) at r (now (ws .exit)) (now (out .exit)) ⌝ }
+{
+    let first = place.first;
+    let s = statements::statement(
+        nodes,
+        statements,
+        symbols,
+        regions,
+        ws,
+        out,
+        how,
+        facts,
+        block,
+        first + k,
+        at,
+    );
+    let halt = s.halt;
+    let after = s.at;
+    match halt {
+        Halt::With(stop) => Moved {
+            next: Next::Stops(stop),
+            at: after,
+        },
+        Halt::Not => settle(
+            nodes,
+            statements,
+            blocks,
+            symbols,
+            regions,
+            ws,
+            out,
+            how,
+            place,
+            block,
+            k + 1,
+            after,
+        ),
+    }
+}
+
+// What one unit buys: the block at a place is entered, or a statement of it run.
+fn unit(
+    nodes: &[u8],
+    statements: &[u8],
+    blocks: &[u8],
+    symbols: &[u8],
+    regions: &[u8],
+    ws: &mut [u8],
+    out: &mut [u8],
+    how: How,
+    facts: Facts,
+    place: Place,
+    spot: Spot,
+    at: Counts,
+) -> Moved
+    requires { ⌜ Ready (given (now nodes) (now symbols) (now regions) how) (now ws) at ⌝ }
+    requires { ⌜ (Placing (now nodes) (now statements) (now blocks) place) × ((spot .inside ≡ true) → Here (now blocks) place (spot .statement)) ⌝ }
+    ensures { λ r. ⌜ UnitOf (given (now (nodes .entry)) (now (symbols .entry)) (now (regions .entry)) how) (now (statements .entry)) (now (blocks .entry)) facts place spot (now (ws .entry)) (now (out .entry)) at r (now (ws .exit)) (now (out .exit)) ⌝ }
+{
+    if spot.inside {
+        return run_on(
+            nodes,
+            statements,
+            blocks,
+            symbols,
+            regions,
+            ws,
+            out,
+            how,
+            facts,
+            place,
+            spot.block,
+            spot.statement,
+            at,
+        );
+    }
+    settle(
+        nodes,
+        statements,
+        blocks,
+        symbols,
+        regions,
+        ws,
+        out,
+        how,
+        place,
+        spot.block,
+        0,
+        at,
+    )
+}
+
+// A unit is spent, on a block or on a statement.
+fn pay(at: Counts, block: bool) -> Counts
+    requires { ⌜ (Balanced (at .tally)) × (0 < at .tally .left) ⌝ }
+    ensures { λ r. ⌜ r ≡ paidCounts block at ⌝ }
+{
+    let t = at.tally;
+    if block {
+        return Counts {
+            stored: at.stored,
+            tally: Tally {
+                recorded: t.recorded,
+                asked: t.asked,
+                left: t.left - 1,
+                entered: t.entered + 1,
+                steps: t.steps,
+            },
+        };
+    }
+    Counts {
+        stored: at.stored,
+        tally: Tally {
+            recorded: t.recorded,
+            asked: t.asked,
+            left: t.left - 1,
+            entered: t.entered,
+            steps: t.steps + 1,
+        },
+    }
+}
+
+// The units of a tally: what is run between two payments leaves them as they are.
+fn resumed(at: Counts, units: Tally) -> Counts
+    ensures { λ r. ⌜ r ≡ withUnits units at ⌝ }
+{
+    let t = at.tally;
+    Counts {
+        stored: at.stored,
+        tally: Tally {
+            recorded: t.recorded,
+            asked: t.asked,
+            left: units.left,
+            entered: units.entered,
+            steps: units.steps,
+        },
+    }
+}
+
+// One turn of the walk: a unit is spent, and what it buys is done.
+fn turn(
+    nodes: &[u8],
+    statements: &[u8],
+    blocks: &[u8],
+    part: &[u8],
+    symbols: &[u8],
+    regions: &[u8],
+    ws: &mut [u8],
+    out: &mut [u8],
+    how: How,
+    facts: Facts,
+    spot: Spot,
+    at: Counts,
+) -> Moved
+    requires { ⌜ Ready (given (now nodes) (now symbols) (now regions) how) (now ws) at ⌝ }
+    requires { ⌜ Rooted (now nodes) (now statements) (now blocks) (now part) (facts .blocks) ⌝ }
+    requires { ⌜ (PlacedAt (now blocks) (facts .blocks) spot) × (spot .block < facts .blocks) ⌝ }
+    requires { ⌜ (Balanced (at .tally)) × (0 < at .tally .left) ⌝ }
+    ensures { λ r. ⌜ Turns (given (now (nodes .entry)) (now (symbols .entry)) (now (regions .entry)) how) (now (statements .entry)) (now (blocks .entry)) facts spot (now (ws .entry)) (now (out .entry)) at r (now (ws .exit)) (now (out .exit)) ⌝ }
+{
+    let place = index::blocks::block(part, spot.block);
+    let paid = pay(at, !spot.inside);
+    let m = unit(
+        nodes,
+        statements,
+        blocks,
+        symbols,
+        regions,
+        ws,
+        out,
+        how,
+        facts,
+        place,
+        spot,
+        paid,
+    );
+    let next = m.next;
+    let after = m.at;
+    let units = paid.tally;
+    Moved {
+        next,
+        at: resumed(after, units),
+    }
+}
+
+// The walk from block 0, by an index of the blocks.
+fn rounds(
+    nodes: &[u8],
+    statements: &[u8],
+    blocks: &[u8],
+    part: &[u8],
+    symbols: &[u8],
+    regions: &[u8],
+    ws: &mut [u8],
+    out: &mut [u8],
+    how: How,
+    facts: Facts,
+    start: Counts,
+) -> Walked
+    requires { ⌜ Ready (given (now nodes) (now symbols) (now regions) how) (now ws) start ⌝ }
+    requires { ⌜ Rooted (now nodes) (now statements) (now blocks) (now part) (facts .blocks) ⌝ }
+    requires { ⌜ Balanced (start .tally) ⌝ }
+    ensures { λ r. ⌜ WalksFrom (given (now (nodes .entry)) (now (symbols .entry)) (now (regions .entry)) how) (now (statements .entry)) (now (blocks .entry)) facts (now (ws .entry)) (now (out .entry)) start r (now (ws .exit)) (now (out .exit)) ⌝ }
+{
+    let mut at = start;
+    let mut spot = Spot {
+        block: 0,
+        statement: 0,
+        inside: false,
+    };
+    while spot.block < facts.blocks {
+        let t = at.tally;
+        if t.left == 0 {
+            return Walked {
+                stop: Stop::Steps,
+                at,
+            };
+        }
+        let m = turn(
+            nodes,
+            statements,
+            blocks,
+            part,
+            symbols,
+            regions,
+            ws,
+            out,
+            how,
+            facts,
+            spot,
+            at,
+        );
+        let next = m.next;
+        let after = m.at;
+        match next {
+            Next::Stops(stop) => {
+                return Walked { stop, at: after };
+            }
+            Next::Goes(s) => {
+                spot = s;
+                at = after;
+            }
+        }
+    }
+    Walked {
+        stop: Stop::NoBlock(spot.block as u64),
+        at,
+    }
+}
+
+// The bytes of the index of blocks.
+const INDEX: usize = 10920;
+
+// The index is copied out first: what an evaluation promises of the workspace's tables leaves it out.
+pub fn walk(
+    nodes: &[u8],
+    statements: &[u8],
+    blocks: &[u8],
+    symbols: &[u8],
+    regions: &[u8],
+    ws: &mut [u8],
+    out: &mut [u8],
+    how: How,
+    facts: Facts,
+    at: Counts,
+) -> Walked
+    requires { ⌜ Ready (given (now nodes) (now symbols) (now regions) how) (now ws) at ⌝ }
+    requires { ⌜ Rooted (now nodes) (now statements) (now blocks) (blocksPart (tables (now ws))) (facts .blocks) ⌝ }
+    requires { ⌜ Balanced (at .tally) ⌝ }
+    ensures { λ r. ⌜ WalksAll (given (now (nodes .entry)) (now (symbols .entry)) (now (regions .entry)) how) (now (statements .entry)) (now (blocks .entry)) facts (at .tally .left) (now (ws .entry)) (now (out .entry)) at r (now (ws .exit)) (now (out .exit)) ⌝ }
+{
+    if facts.blocks == 0 {
+        return Walked {
+            stop: Stop::NoBlocks,
+            at,
+        };
+    }
+    let mut part = [0u8; INDEX];
+    layout::copy(&ws[workspace::BLOCKS..workspace::END], &mut part, INDEX);
+    rounds(
+        nodes,
+        statements,
+        blocks,
+        &part,
+        symbols,
+        regions,
+        ws,
+        out,
+        how,
+        facts,
+        at,
+    )
+}

@@ -1,0 +1,234 @@
+/* Runs the deepest chains of 64 nodes on a thread with a stack of 64 KiB, tells how much of it a
+ * call used at most, and ends with 1 if that is more than EMULATE_STACK_NEEDED. */
+#define _POSIX_C_SOURCE 200112L
+#include <pthread.h>
+
+#include "emulate.h"
+#include "files.h"
+
+/* ---- Chains */
+
+#define DEEPEST 64
+
+/* A node of a chain, with what stands beside the next one: nodes before it and after it. */
+struct link {
+    char letter;
+    enum kind kind;
+    unsigned before, after;
+};
+
+static const struct link links[] = {
+    { 'c', CAST, 0, 0 },
+    { 'd', DEREF, 0, 0 },
+    { '&', ADDRESS_OF, 0, 0 },
+    { '=', ASSIGN, 1, 0 },  /* the right side */
+    { '*', ASSIGN, 0, 1 },  /* the left side */
+    { '?', TERNARY, 0, 2 }, /* the condition */
+    { ':', TERNARY, 2, 0 }, /* the last arm */
+    { '(', CALL, 1, 0 },    /* the one argument */
+    { ',', CALL, 16, 0 },   /* the last of 16 */
+    { '+', BINARY, 1, 0 },
+    { '-', BINARY, 0, 1 },
+    { 'i', INTRINSIC, 0, 0 },
+    { 'r', RETURN, 0, 0 },
+    { '{', STRUCT_INIT, 0, 0 },
+    { 'f', FIELD, 0, 0 },
+    { 's', ASSIGN, 2, 0 }, /* a store through a pointer */
+};
+
+struct chain {
+    const char *name;
+    const char *letters; /* over and over */
+};
+
+static const struct chain chains[] = {
+    { "casts", "c" },
+    { "loads", "d" },
+    { "loads of casts", "dc" },
+    { "addresses", "&" },
+    { "assigns", "=" },
+    { "stores in pointers", "*d" },
+    { "stores in cast pointers", "*dc" },
+    { "conditions", "?" },
+    { "arms", ":" },
+    { "calls", "(" },
+    { "calls with 16 arguments", "," },
+    { "right operands", "+" },
+    { "left operands", "-" },
+    { "intrinsics", "i" },
+    { "returns", "r" },
+    { "struct stores", "s{f" },
+    { "assigned calls", "=(" },
+    { "assigned conditions in calls", "=?(" },
+    { "all sorts", "=?(,+-cd*dir" },
+};
+
+static struct routine parts;
+static struct made routine, world, call;
+
+static const struct link *link_of(char letter)
+{
+    size_t i = 0;
+    while (links[i].letter != letter)
+        i++;
+    return &links[i];
+}
+
+/* The link at a level; where a Return stands on top, the chain begins below it. */
+static const struct link *link_at(const struct chain *chain, bool returned, size_t level)
+{
+    if (returned && level == 0)
+        return link_of('r');
+    return link_of(chain->letters[(level - returned) % strlen(chain->letters)]);
+}
+
+/* What stands before the next node: a callee, a place to assign to, or constants. */
+static void put_before(const struct link *l)
+{
+    unsigned i = 0;
+    if (l->kind == CALL) {
+        node(&parts, FUNCTION_NAME, 0, 0, 0, 1, 0);
+        i = 1;
+    } else if (l->letter == '=') {
+        var(&parts, 1);
+        i = 1;
+    } else if (l->letter == 's') {
+        over(&parts, DEREF, 2);
+        i = 1;
+    }
+    for (; i < l->before; i++)
+        constant(&parts, 1, 1);
+}
+
+/* A tree whose longest chain has 64 nodes, or 63 where a field would be missing at its end. */
+static void put_chain(const struct chain *chain, bool returned)
+{
+    uint32_t span = 1;
+    size_t level, last = DEEPEST - 1;
+    unsigned i;
+    if (link_at(chain, returned, last - 1)->kind == STRUCT_INIT)
+        last--;
+    for (level = 0; level < last; level++) {
+        const struct link *l = link_at(chain, returned, level);
+        span += 1 + l->before + l->after;
+    }
+    for (level = 0; level < last; level++) {
+        const struct link *l = link_at(chain, returned, level);
+        over(&parts, l->kind, span);
+        put_before(l);
+        span -= 1 + l->before + l->after;
+    }
+    constant(&parts, 1, 1);
+    while (level > 0) {
+        level--;
+        for (i = 0; i < link_at(chain, returned, level)->after; i++)
+            constant(&parts, 1, 1);
+    }
+}
+
+/* Where the chain stands. */
+enum place { STATEMENT, RETURNED, CONDITION, BY_ITSELF, PLACES };
+
+static const char *const places[PLACES] = {
+    "as a statement", "under a return", "as a condition", "by itself"
+};
+
+static void make_files(const struct chain *chain, enum place place)
+{
+    begin(&parts, 0, 0, 0, 0);
+    put_text(&parts.names, "f");
+    put_text(&parts.names, "x");
+    put_text(&parts.types, "long *");
+    variable(&parts, 1, 0);
+    put_chain(chain, place == RETURNED);
+    if (place == CONDITION) {
+        block(&parts, 0, BRANCH, 0, 1, 1);
+    } else {
+        statement(&parts, 0, 0, 0);
+        block(&parts, 1, ENDS, 0, 0, 0);
+    }
+    finish(&parts, &routine);
+    empty_world(&world);
+    make_call(&call, 10, 8, NULL, 0);
+}
+
+/* ---- A stack of its own, with room below it that shows how far a call goes */
+
+#define STACK 65536
+#define ROOM (4 * STACK)
+#define PATTERN 0xa5
+
+static union {
+    uint8_t bytes[ROOM + STACK];
+    long double aligned;
+} stack;
+
+static uint8_t record[1 << 20], workspace[EMULATE_WORKSPACE_NEEDED];
+
+struct task {
+    enum place place;
+    uint32_t number;
+    uint8_t *top; /* where the call begins */
+};
+
+static void *carry_out(void *given)
+{
+    struct task *task = given;
+    uint8_t here = PATTERN;
+    task->top = &here;
+    if (task->place == BY_ITSELF)
+        task->number = constant_value(routine.bytes, routine.length, 0, workspace,
+                                      sizeof workspace).refusal;
+    else
+        task->number = run(routine.bytes, routine.length, world.bytes, world.length, call.bytes,
+                           call.length, record, sizeof record, workspace, sizeof workspace).number;
+    return NULL;
+}
+
+/* Carries a task out on the stack; gives the bytes that the call used. */
+static size_t used_by(struct task *task)
+{
+    pthread_attr_t attributes;
+    pthread_t thread;
+    size_t lowest = 0;
+    memset(stack.bytes, PATTERN, sizeof stack.bytes);
+    if (pthread_attr_init(&attributes) != 0
+        || pthread_attr_setstack(&attributes, stack.bytes + ROOM, STACK) != 0
+        || pthread_create(&thread, &attributes, carry_out, task) != 0
+        || pthread_join(thread, NULL) != 0) {
+        fputs("no thread with a stack of its own\n", stderr);
+        exit(2);
+    }
+    pthread_attr_destroy(&attributes);
+    while (stack.bytes[lowest] == PATTERN)
+        lowest++;
+    return (size_t)(task->top - (stack.bytes + lowest));
+}
+
+int main(void)
+{
+    size_t i, most = 0;
+    int place, failed = 0;
+    const char *chain = "", *at = "";
+    for (i = 0; i < sizeof chains / sizeof *chains; i++) {
+        for (place = 0; place < PLACES; place++) {
+            struct task task = { (enum place)place, 0, NULL };
+            size_t used;
+            make_files(&chains[i], task.place);
+            used = used_by(&task);
+            if (task.number != 0) {
+                printf("%s %s: refused by %u\n", chains[i].name, places[place],
+                       (unsigned)task.number);
+                failed = 1;
+            }
+            if (used > most) {
+                most = used;
+                chain = chains[i].name;
+                at = places[place];
+            }
+        }
+    }
+    printf("%lu of %lu bytes of stack: %s %s\n", (unsigned long)most,
+           (unsigned long)EMULATE_STACK_NEEDED, chain, at);
+    return failed || most > EMULATE_STACK_NEEDED;
+}
