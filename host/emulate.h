@@ -41,7 +41,7 @@ extern "C" {
 #define EMULATE_RECORD_LEAST 99
 
 /* Bytes of stack that a call needs at most, on the calling thread. */
-#define EMULATE_STACK_NEEDED 32768
+#define EMULATE_STACK_NEEDED 4194304
 
 /* ---- The numbers of an answer */
 

@@ -1,5 +1,5 @@
-/* Runs the deepest chains of 64 nodes on a thread with a stack of 64 KiB, tells how much of it a
- * call used at most, and ends with 1 if that is more than EMULATE_STACK_NEEDED. */
+/* Runs the deepest chains of 64 nodes and the widest trees on a thread with a stack of its own, tells
+ * how much of it a call used at most, and ends with 1 if that is more than EMULATE_STACK_NEEDED. */
 #define _POSIX_C_SOURCE 200112L
 #include <pthread.h>
 
@@ -61,6 +61,8 @@ static const struct chain chains[] = {
     { "assigned calls", "=(" },
     { "assigned conditions in calls", "=?(" },
     { "all sorts", "=?(,+-cd*dir" },
+    { "a wide intrinsic", "I" },
+    { "a wide struct", "S" },
 };
 
 static struct routine parts;
@@ -126,6 +128,42 @@ static void put_chain(const struct chain *chain, bool returned)
     }
 }
 
+/* As many nodes side by side as a file has room for. */
+#define WIDEST 3240
+
+/* An Intrinsic over constants. */
+static void put_wide_intrinsic(void)
+{
+    unsigned i;
+    over(&parts, INTRINSIC, WIDEST);
+    for (i = 1; i < WIDEST; i++)
+        constant(&parts, 1, 1);
+}
+
+/* A struct stored to the address 1, of fields that are constants. */
+static void put_wide_struct(void)
+{
+    unsigned i, fields = (WIDEST - 4) / 2;
+    over(&parts, ASSIGN, 2 * fields + 4);
+    over(&parts, DEREF, 2);
+    constant(&parts, 1, 1);
+    over(&parts, STRUCT_INIT, 2 * fields + 1);
+    for (i = 0; i < fields; i++) {
+        over(&parts, FIELD, 2);
+        constant(&parts, 1, 1);
+    }
+}
+
+static void put_tree(const struct chain *chain, bool returned)
+{
+    if (chain->letters[0] == 'I')
+        put_wide_intrinsic();
+    else if (chain->letters[0] == 'S')
+        put_wide_struct();
+    else
+        put_chain(chain, returned);
+}
+
 /* Where the chain stands. */
 enum place { STATEMENT, RETURNED, CONDITION, BY_ITSELF, PLACES };
 
@@ -140,7 +178,7 @@ static void make_files(const struct chain *chain, enum place place)
     put_text(&parts.names, "x");
     put_text(&parts.types, "long *");
     variable(&parts, 1, 0);
-    put_chain(chain, place == RETURNED);
+    put_tree(chain, place == RETURNED);
     if (place == CONDITION) {
         block(&parts, 0, BRANCH, 0, 1, 1);
     } else {
@@ -154,8 +192,8 @@ static void make_files(const struct chain *chain, enum place place)
 
 /* ---- A stack of its own, with room below it that shows how far a call goes */
 
-#define STACK 65536
-#define ROOM (4 * STACK)
+#define STACK (EMULATE_STACK_NEEDED + 16384)
+#define ROOM 65536
 #define PATTERN 0xa5
 
 static union {

@@ -799,11 +799,16 @@ def coded(f):
     return struct.pack("<H", len(found)) + b"".join(struct.pack("<II", times, len(unit)) + unit for times, unit in found)
 
 
-def main():
+def all_cases():
+    """Each case: its name, its number, the node of a `constant_value` or None, and its files."""
     for part in (tables, limits_of_files, names, types, heads, fields, forests, roots, walks, worlds, calls, first_of_two, constants):
         part()
+    return CASES
+
+
+def main():
     pages = [b""]
-    for name, number, node, files in CASES:
+    for name, number, node, files in all_cases():
         found = refusal(*files) if node is None else constant_refusal(files[0], node)
         if found != number:
             sys.exit("%s: said %d, read %d" % (name, number, found))
@@ -823,4 +828,5 @@ def main():
     print("%d cases, %d bytes" % (len(CASES), len(data)))
 
 
-main()
+if __name__ == "__main__":
+    main()

@@ -2,7 +2,7 @@
 -- nothing.
 use mathlib.Core.Path.{_≡_, refl, sym, ap, ap₂, _∙_}
 use mathlib.Core.List.{List, [], _∷_, _++_, append-assoc, map, map-append}
-use Prim.Native.Nat.{ℕ, _+_, _*_, _^_, _<_}
+use Prim.Native.Nat.{ℕ, _+_, _*_, _^_, _≤_, _<_}
 use native.Mathlib.Omega.{arith}
 use lib.ListN.{length, take, drop, length-append}
 use lib.Seq.{take-at, drop-at, drop-drop}
@@ -69,15 +69,24 @@ module _ (xs : List (List ℕ)) (b : List ℕ) (ys : List (List ℕ)) where
   length-all =
       omega (arith, ap length at-body, length-append head (b ++ join ys), length-append b (join ys), length-head)
 
+  module _ (h : length (layout (xs ++ b ∷ ys)) < 256 ^ 4) where
+    pair-start : numberAt (layout all) (8 * length xs) 4 ≡ start
+    unfolding numberAt
+    pair-start = ap (λ (l : List ℕ). num (take 4 l)) from-pair ∙ num-le 4 start (omega (arith, length-all))
+
+    pair-length : numberAt (layout all) (8 * length xs + 4) 4 ≡ length b
+    unfolding numberAt
+    pair-length = ap (λ (l : List ℕ). num (take 4 l)) from-length ∙ num-le 4 (length b) (omega (arith, length-all))
+
+    -- what a pair locates lies in the record
+    pub body-inside : numberAt (layout (xs ++ b ∷ ys)) (8 * length xs) 4 + numberAt (layout (xs ++ b ∷ ys)) (8 * length xs + 4) 4 ≤ length (layout (xs ++ b ∷ ys))
+    body-inside = omega (arith, pair-start, pair-length, length-all)
+
   pub body-back : length (layout (xs ++ b ∷ ys)) < 256 ^ 4 → bodyAt (layout (xs ++ b ∷ ys)) (length xs) ≡ b
-  unfolding bodyAt numberAt
+  unfolding bodyAt
   body-back h =
       let r = layout all in
-      let o : num (take 4 (drop (8 * length xs) r)) ≡ start =
-      ap (λ (l : List ℕ). num (take 4 l)) from-pair ∙ num-le 4 start (omega (arith, length-all)) in
-      let n : num (take 4 (drop (8 * length xs + 4) r)) ≡ length b =
-      ap (λ (l : List ℕ). num (take 4 l)) from-length ∙ num-le 4 (length b) (omega (arith, length-all)) in
-      ap₂ (λ (m s : ℕ). take m (drop s r)) n o
+      ap₂ (λ (m s : ℕ). take m (drop s r)) (pair-length h) (pair-start h)
       ∙ ap (λ (l : List ℕ). take (length b) (drop start l)) at-body
       ∙ ap (take (length b)) (drop-at head (b ++ join ys) start length-head)
       ∙ take-at b (join ys) (length b) refl

@@ -1,0 +1,16 @@
+pub mod PutLaws
+pub mod DigitLaws
+pub mod NameLaws
+pub mod ReadLaws
+pub mod ValueText
+pub mod StepText
+pub mod StopText
+pub mod Fits
+pub mod Places
+pub mod Decoded
+pub mod Listing
+pub mod FitValues
+pub mod FitTrees
+pub mod FitRuns
+pub mod FitPrograms
+pub mod Listed

@@ -1,0 +1,52 @@
+// Replays the cases of data/vectors.bin, which the original answered, and says how many of each kind agree.
+mod cases;
+mod findings;
+mod replay;
+mod tally;
+mod unpack;
+
+use libc::STDOUT_FILENO;
+use tally::Tally;
+
+fn say(what: &[u8], good: u64, of: u64) {
+    io::write_all(STDOUT_FILENO, what);
+    io::print_decimal(STDOUT_FILENO, good);
+    io::write_all(STDOUT_FILENO, b" of ");
+    io::print_decimal(STDOUT_FILENO, of);
+    io::write_all(STDOUT_FILENO, b"\n");
+}
+
+fn say_all(t: Tally, cases: u64) {
+    say(b"runs that agree: ", t.good_runs, t.runs);
+    say(
+        b"values of constants that agree: ",
+        t.good_constants,
+        t.constants,
+    );
+    say(b"cases compared: ", t.cases(), cases);
+}
+
+fn main() {
+    let path = b"vectors.bin";
+    let fd = os::open_read(path);
+    if fd < 0 {
+        os::fail(path);
+        return;
+    }
+    let mut page = io::large_buffer();
+    let mut store = [0u8; cases::STORE];
+    let mut buffer = [0u8; cases::SORT];
+    let mut workspace = [0u8; cases::SORT];
+    let count = replay::count(fd);
+    let s = replay::compare_cases(
+        fd,
+        count,
+        &mut page,
+        &mut store,
+        &mut buffer,
+        &mut workspace,
+    );
+    replay::expect_end(fd);
+    libc::close(fd);
+    say_all(s.tally, count as u64);
+}
