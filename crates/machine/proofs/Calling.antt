@@ -29,7 +29,7 @@ use Rattle.hosting.specs.Stands.{Stands, stands, Shape, a-call, KidsAt, no-kid,
 use Rattle.hosting.specs.Ending.{ended, short, shortOf, endOf, filledEnd}
 use Rattle.hosting.specs.Runs.{Runs}
 use Rattle.machine.specs.Post.{Evals, EvalsArgs, ValuesIn}
-use Rattle.machine.specs.Steps.{GivesShort, FilledWith, FilledShort, OneMore}
+use Rattle.machine.specs.Steps.{GivesShort, FilledWith, Unfilled}
 use Rattle.machine.specs.Taking.{PutsVal, Calls, afterArgs}
 use Rattle.hosting.proofs.Running.{done-runs, goes, halts, acts, read, told}
 use Rattle.machine.proofs.Evaluating.{evals-as, ended-on, short-on}
@@ -75,6 +75,12 @@ module _ (vals vals′ vals″ : List ℕ) (k : ℕ) {v : Val} (room : k * 14 + 
 
 -- ---- arguments
 
+-- the same values and those from value k up to value j before them
+pub record From (k j : ℕ) (b r : Filled) : Type 0 where
+  pub at : r .at ≡ b .at
+  pub count : r .count + k ≡ b .count + j
+  pub outcome : r .outcome ≡ b .outcome
+
 args-none : {g : Given} {n e : ℕ} {w o : List ℕ} {a : Counts} {ts : Trees} → KidsAt (g .nodes) n e ts → n ≡ e → Ready g w a → Runs g (λ x. evals (looks (x .env) ts)) w o a (ended []) w o a
 unfolding look evals
 args-none no-kid e p = done-runs (λ _. []) (λ x h. refl) p
@@ -109,27 +115,46 @@ module _ {g : Given} {w₀ o₀ : List ℕ} {a₀ : Counts} {p : Evaluated} {w�
   args-stop (a-kid lt h k) ne ev eo = halts _ _ (short-on ev eo h)
 
   module _ {n e k : ℕ} (ne : n ≡ e → ⊥) (ev : Evals g n w₀ o₀ a₀ p w₁ o₁) where
-    pub args-short : {y : Short} {vals : List ℕ} {r : Filled} → FineArgs (g .nodes) n e k → p .outcome ≡ Ends y → FilledShort (p .at) (record { reason = y .reason; number = y .number }) r
-        → EvalsArgs g n e k w₀ o₀ a₀ r vals vals w₁ o₁
+    pub args-short : {y : Short} {vals : List ℕ} {r : Filled} → FineArgs (g .nodes) n e k → p .outcome ≡ Ends y → Unfilled p r → EvalsArgs g n e k w₀ o₀ a₀ r vals vals w₁ o₁
     args-short {vals = vals} {r = r} f eo q = record {
       values = [];
       filled = no-values vals k (r .count) (q .count);
-      runs = λ ts h. told (ap (λ (z : Outcome). filledEnd z []) (q .outcome)) (q .at) (args-stop h ne ev eo);
+      runs = λ ts h. told (ap (λ (z : Outcome). filledEnd z []) (q .outcome ∙ eo)) (q .at) (args-stop h ne ev eo);
       before = refl;
       few = omega (arith, f .room, q .count);
     }
 
     pub args-evals : {v : Val} {m : ℕ} {vals vals′ vals″ : List ℕ} {b r : Filled} {w o : List ℕ} → k * 14 + 14 ≤ length vals → p .outcome ≡ Is v → m ≡ next (g .nodes) n → PutsVal vals k v vals′
-        → EvalsArgs g m e (k + 1) w₁ o₁ (p .at) b vals′ vals″ w o → OneMore b r → EvalsArgs g n e k w₀ o₀ a₀ r vals vals″ w o
+        → EvalsArgs g m e (k + 1) w₁ o₁ (p .at) b vals′ vals″ w o → From k (k + 1) b r → EvalsArgs g n e k w₀ o₀ a₀ r vals vals″ w o
     args-evals {v} {m} {vals} {vals′} {vals″} {b} {r} {w} {o} room eo em put ea q =
         let there : (us : Trees) → KidsAt (g .nodes) (next (g .nodes) n) e us → KidsAt (g .nodes) m e us = λ us h. subst (λ (j : ℕ). KidsAt (g .nodes) j e us) (sym em) h in
         record {
           values = v ∷ ea .values;
-          filled = subst (λ (j : ℕ). ValuesIn vals″ k j (v ∷ ea .values)) (sym (q .count)) (more-values vals vals′ vals″ k room put (ea .before) (ea .filled));
+          filled = subst (λ (j : ℕ). ValuesIn vals″ k j (v ∷ ea .values)) (omega (arith, q .count)) (more-values vals vals′ vals″ k room put (ea .before) (ea .filled));
           runs = λ ts h. told (ap (λ (z : Outcome). filledEnd z (v ∷ ea .values)) (q .outcome)) (q .at) (args-one b (ea .values) h ne ev eo (λ us i. ea .runs us (there us i)));
           before = kept-before vals vals′ vals″ k room put (ea .before);
           few = omega (arith, ea .few, q .count);
         }
+
+-- the same values, told by an equal result; and of what ended short none
+module _ {g : Given} {n e k : ℕ} {w₀ o₀ : List ℕ} {a₀ : Counts} {b r : Filled} {vals vals′ w o : List ℕ} (ea : EvalsArgs g n e k w₀ o₀ a₀ b vals vals′ w o) where
+  pub args-told : From k k b r → EvalsArgs g n e k w₀ o₀ a₀ r vals vals′ w o
+  args-told q = record {
+    values = ea .values;
+    filled = subst (λ (j : ℕ). ValuesIn vals′ k j (ea .values)) (omega (arith, q .count)) (ea .filled);
+    runs = λ ts h. told (ap (λ (z : Outcome). filledEnd z (ea .values)) (q .outcome)) (q .at) (ea .runs ts h);
+    before = ea .before;
+    few = omega (arith, ea .few, q .count);
+  }
+
+  pub args-cut : {y : Short} → b .outcome ≡ Ends y → r .outcome ≡ b .outcome → r .at ≡ b .at → r .count ≡ 0 → EvalsArgs g n e k w₀ o₀ a₀ r vals vals′ w o
+  args-cut eo p q z = record {
+    values = [];
+    filled = no-values vals′ k (r .count) z;
+    runs = λ ts h. told (ap (λ (x : Outcome). filledEnd x []) (p ∙ eo)) q (read (λ x. filledEnd x (ea .values)) eo (ea .runs ts h));
+    before = ea .before;
+    few = omega (arith, ea .few, z);
+  }
 
 args-ready : {g : Given} {n e k : ℕ} {w₀ o₀ : List ℕ} {a₀ : Counts} {r : Filled} {v : Val} {vals vals′ w o : List ℕ} → EvalsArgs g n e k w₀ o₀ a₀ r vals vals′ w o → r .outcome ≡ Is v
     → FineArgs (g .nodes) n e k → Ready g w (r .at)

@@ -5,6 +5,7 @@ pub mod Pointing
 pub mod Assigning
 pub mod Storing
 pub mod Calling
+pub mod Siblings
 pub mod Working
 pub mod Asking
 pub mod Naming

@@ -10,10 +10,10 @@ use lib.ListN.{length}
 use lib.Dec.{eqb}
 use Rattle.files.specs.Nodes.{kindOf}
 use Rattle.files.specs.Spells.{Inside, next}
-use Rattle.hosting.specs.Stands.{Fine, FineKids, FineArgs, FineFields}
+use Rattle.hosting.specs.Stands.{Fine, FineFields}
 use Rattle.machine.specs.declared.places.Target.{Target}
 use Rattle.machine.specs.Steps.{Targets, baseAt}
-use Rattle.hosting.proofs.Shapes.{kid-here, arg-here, field-inside}
+use Rattle.hosting.proofs.Shapes.{field-inside}
 use Rattle.machine.proofs.Pointing.{target-past}
 use Rattle.machine.proofs.Storing.{base-past}
 
@@ -56,9 +56,10 @@ module _ (b : List ℕ) (n : ℕ) {t : ℕ} where
   unfolding left
   eval-falls p q e = omega (arith, e, rank-other (kindOf b n) (λ z. q (p ∙ z)))
 
-  pub here-falls : left b n 4 ≡ t → left b n 3 < t
+  -- there or at a sibling after it
+  pub here-falls : {i : ℕ} → left b n 4 ≡ t → n ≤ i → left b i 3 < t
   unfolding left
-  here-falls e = omega (arith, e)
+  here-falls e h = omega (arith, e, h)
 
   pub target-falls : {w : List ℕ} {p : Target} → left b n 4 ≡ t → Targets b w n p → left b (p .node) 3 < t
   unfolding left
@@ -92,15 +93,7 @@ module _ (b : List ℕ) (n : ℕ) {t : ℕ} (r s : ℕ) where
   pub base-falls : {m : ℕ} → left b n r ≡ t → Fine b n → m ≡ baseAt b (n + 1) → s ≤ 4 → left b m s < t
   base-falls e f p h = after e (f .inside) (let z = base-past b (n + 1) p in omega (arith, z)) h
 
-  -- at a field, and past one of trees side by side
-  pub field-falls : {e : ℕ} → left b n r ≡ t → (n ≡ e → ⊥) → FineFields b n e → s ≤ 4 → left b (n + 1) s < t
-  field-falls z ne f h = after z (field-inside ne f) (omega arith) h
-
-  pub fields-falls : {e m : ℕ} → left b n r ≡ t → (n ≡ e → ⊥) → FineFields b n e → m ≡ next b n → s ≤ 4 → left b m s < t
-  fields-falls z ne f p h = let i = field-inside ne f in after z i (omega (arith, p, i .some)) h
-
-  pub kids-falls : {e m : ℕ} → left b n r ≡ t → (n ≡ e → ⊥) → FineKids b n e → m ≡ next b n → s ≤ 4 → left b m s < t
-  kids-falls z ne f p h = let i = kid-here ne f .inside in after z i (omega (arith, p, i .some)) h
-
-  pub args-falls : {e k m : ℕ} → left b n r ≡ t → (n ≡ e → ⊥) → FineArgs b n e k → m ≡ next b n → s ≤ 4 → left b m s < t
-  args-falls z ne f p h = let i = arg-here ne f .inside in after z i (omega (arith, p, i .some)) h
+  -- at a field, or one after it
+  pub field-falls : {e i : ℕ} → left b n r ≡ t → n ≤ i → (i ≡ e → ⊥) → FineFields b i e → s ≤ 4 → left b (i + 1) s < t
+  unfolding left
+  field-falls z p ne f h = let i = field-inside ne f in omega (arith, z, p, i .some, i .fits, h)

@@ -73,15 +73,11 @@ pub record FilledWith (a : Counts) (n : ℕ) (r : Filled) : Type 0 where
   pub count : r .count ≡ n
   pub outcome : r .outcome ≡ Is nothing
 
-pub record FilledShort (a : Counts) (s : Short) (r : Filled) : Type 0 where
-  pub at : r .at ≡ a
+-- none: the evaluation of an argument ended short
+pub record Unfilled (a : Evaluated) (r : Filled) : Type 0 where
+  pub at : r .at ≡ a .at
   pub count : r .count ≡ 0
-  pub outcome : r .outcome ≡ Ends s
-
-pub record OneMore (b r : Filled) : Type 0 where
-  pub at : r .at ≡ b .at
-  pub count : r .count ≡ b .count + 1
-  pub outcome : r .outcome ≡ b .outcome
+  pub outcome : r .outcome ≡ a .outcome
 
 -- a variable is written
 abbrev pub didWrite : ℕ → Val → Did

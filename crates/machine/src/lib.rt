@@ -1,5 +1,6 @@
 // The machine: expressions in a routine's nodes, evaluated and executed against a world, in a lent workspace, with what they ask written to a lent part.
 // The cycle of calls is in this file: each member dispatches and combines. What else they do is in the modules, in functions of their own.
+// From sibling to sibling a member goes by a loop, so that the stack grows with the depth of a tree alone.
 mod calls;
 mod names;
 mod places;
@@ -412,32 +413,24 @@ fn store_fields(
     requires { ⌜ FineFields (now nodes) n end ⌝ }
     ensures { λ r. ⌜ StoresFields (given (now (nodes .entry)) (now (symbols .entry)) (now (regions .entry)) how) n end address (now (ws .entry)) (now (out .entry)) at r (now (ws .exit)) (now (out .exit)) ⌝ }
 {
-    if n == end {
-        return values::unknown(64, true, at);
+    let mut i = n;
+    let mut a = at;
+    while i != end {
+        let more = places::next(nodes, i);
+        let r = eval(nodes, symbols, regions, ws, out, how, i + 1, a);
+        let o = r.outcome;
+        let Outcome::Is(v) = o else {
+            return r;
+        };
+        let b = places::store_field(nodes, ws, i, address, v, r.at);
+        let p = b.outcome;
+        let Outcome::Is(_) = p else {
+            return b;
+        };
+        i = more;
+        a = b.at;
     }
-    let more = places::next(nodes, n);
-    let a = eval(nodes, symbols, regions, ws, out, how, n + 1, at);
-    let o = a.outcome;
-    let Outcome::Is(v) = o else {
-        return a;
-    };
-    let b = places::store_field(nodes, ws, n, address, v, a.at);
-    let p = b.outcome;
-    match p {
-        Outcome::Is(_) => store_fields(
-            nodes,
-            symbols,
-            regions,
-            ws,
-            out,
-            how,
-            more,
-            end,
-            address,
-            b.at,
-        ),
-        Outcome::Ends(_) => b,
-    }
+    values::unknown(64, true, a)
 }
 
 // A Call: the arguments are evaluated, the world is asked, and the locals whose address is taken become unknown.
@@ -498,32 +491,22 @@ fn args(
     requires { ⌜ length (now vals) ≡ 224 ⌝ }
     ensures { λ r. ⌜ EvalsArgs (given (now (nodes .entry)) (now (symbols .entry)) (now (regions .entry)) how) n end k (now (ws .entry)) (now (out .entry)) at r (now (vals .entry)) (now (vals .exit)) (now (ws .exit)) (now (out .exit)) ⌝ }
 {
-    if n == end {
-        return results::filled(at);
+    let mut i = n;
+    let mut j = k;
+    let mut a = at;
+    while i != end {
+        let more = places::next(nodes, i);
+        let r = eval(nodes, symbols, regions, ws, out, how, i, a);
+        let o = r.outcome;
+        let Outcome::Is(v) = o else {
+            return results::unfilled(r);
+        };
+        calls::put_val(vals, j, v);
+        i = more;
+        j += 1;
+        a = r.at;
     }
-    let more = places::next(nodes, n);
-    let a = eval(nodes, symbols, regions, ws, out, how, n, at);
-    let o = a.outcome;
-    match o {
-        Outcome::Is(v) => {
-            calls::put_val(vals, k, v);
-            let b = args(
-                nodes,
-                symbols,
-                regions,
-                ws,
-                out,
-                how,
-                vals,
-                more,
-                end,
-                k + 1,
-                a.at,
-            );
-            results::one_more(b)
-        }
-        Outcome::Ends(s) => results::unfilled(s.reason, s.number, a.at),
-    }
+    results::filled(j - k, a)
 }
 
 // An Intrinsic: its arguments are evaluated.
@@ -562,16 +545,19 @@ fn kids(
     requires { ⌜ FineKids (now nodes) n end ⌝ }
     ensures { λ r. ⌜ EvalsKids (given (now (nodes .entry)) (now (symbols .entry)) (now (regions .entry)) how) n end (now (ws .entry)) (now (out .entry)) at r (now (ws .exit)) (now (out .exit)) ⌝ }
 {
-    if n == end {
-        return values::unknown(64, true, at);
+    let mut i = n;
+    let mut a = at;
+    while i != end {
+        let more = places::next(nodes, i);
+        let r = eval(nodes, symbols, regions, ws, out, how, i, a);
+        let o = r.outcome;
+        let Outcome::Is(_) = o else {
+            return r;
+        };
+        i = more;
+        a = r.at;
     }
-    let more = places::next(nodes, n);
-    let a = eval(nodes, symbols, regions, ws, out, how, n, at);
-    let o = a.outcome;
-    match o {
-        Outcome::Is(_) => kids(nodes, symbols, regions, ws, out, how, more, end, a.at),
-        Outcome::Ends(_) => a,
-    }
+    values::unknown(64, true, a)
 }
 
 // A Return as an expression: its value.

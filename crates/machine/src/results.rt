@@ -14,9 +14,8 @@ use value::Ty;
 use value::Val;
 ghost use mathlib.Core.Path.{_≡_};
 ghost use mathlib.Core.Bool.{true};
-ghost use Prim.Native.Nat.{_+_, _≤_};
 ghost use Rattle.value.specs.Value.{type, unknownVal};
-ghost use Rattle.machine.specs.Steps.{Gives, GivesShort, FailsShort, Tells, AsPointer, FilledWith, FilledShort, OneMore, WroteVariable};
+ghost use Rattle.machine.specs.Steps.{Gives, GivesShort, FailsShort, Tells, AsPointer, FilledWith, Unfilled, WroteVariable};
 ghost use Rattle.hosting.specs.Ending.{noteOf};
 ghost use Rattle.hosting.specs.Held.{withAsked, withStored};
 
@@ -73,36 +72,28 @@ pub fn pointed(a: Evaluated, ty: Ty) -> Pointed
     Pointed { outcome, ty, at }
 }
 
-// No values yet, and no more to come.
-pub fn filled(at: Counts) -> Filled
-    ensures { λ r. ⌜ FilledWith at 0 r ⌝ }
+// So many values.
+pub fn filled(count: usize, at: Counts) -> Filled
+    ensures { λ r. ⌜ FilledWith at count r ⌝ }
 {
     Filled {
         outcome: Outcome::Is(Val::unknown(64, true)),
-        count: 0,
+        count,
         at,
     }
 }
 
-pub fn unfilled(reason: u64, number: u64, at: Counts) -> Filled
-    ensures { λ r. ⌜ FilledShort at (record { reason = reason; number = number }) r ⌝ }
+// None: the evaluation of an argument ended short.
+pub fn unfilled(a: Evaluated) -> Filled
+    ensures { λ r. ⌜ Unfilled a r ⌝ }
 {
+    let outcome = a.outcome;
+    let at = a.at;
     Filled {
-        outcome: Outcome::Ends(Short { reason, number }),
+        outcome,
         count: 0,
         at,
     }
-}
-
-// The values of b after another.
-pub fn one_more(b: Filled) -> Filled
-    requires { ⌜ b .count ≤ 16 ⌝ }
-    ensures { λ r. ⌜ OneMore b r ⌝ }
-{
-    let outcome = b.outcome;
-    let count = b.count + 1;
-    let at = b.at;
-    Filled { outcome, count, at }
 }
 
 // The counts with the questions' cursor where it is now.

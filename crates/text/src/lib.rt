@@ -41,7 +41,7 @@ pub struct Line {
 // The line of a refusal.
 pub fn refusal_line(number: u64, out: &mut [u8]) -> usize
     requires { ⌜ 8192 ≤ length (now out) ⌝ }
-    ensures { λ r. ⌜ Put (now (out .entry)) 0 (text "; refused " ++ (decimal number ++ text "\n")) (now (out .exit)) r ⌝ }
+    ensures { λ r. ⌜ (Put (now (out .entry)) 0 (text "; refused " ++ (decimal number ++ text "\n")) (now (out .exit)) r) × (r ≤ 8192) ⌝ }
 {
     put_numbered(out, 0, b"; refused ", number, 10, b"\n")
 }
@@ -50,7 +50,7 @@ pub fn refusal_line(number: u64, out: &mut [u8]) -> usize
 pub fn header(names: &[u8], part: &[u8], head: &[u8], out: &mut [u8]) -> usize
     requires { ⌜ (TextsIndexed (now names) (now part)) × ((10 ≤ length (now head)) × (numberAt (now head) 0 2 < textCount (now names))) ⌝ }
     requires { ⌜ 8192 ≤ length (now out) ⌝ }
-    ensures { λ r. ⌜ Put (now (out .entry)) 0 (headerText (textsIn (now (names .entry))) (numberAt (now (head .entry)) 0 2) (numberAt (now (head .entry)) 2 8)) (now (out .exit)) r ⌝ }
+    ensures { λ r. ⌜ (Put (now (out .entry)) 0 (headerText (textsIn (now (names .entry))) (numberAt (now (head .entry)) 0 2) (numberAt (now (head .entry)) 2 8)) (now (out .exit)) r) × (r ≤ 8192) ⌝ }
 {
     let name = layout::get16(head, 0) as usize;
     let end = put_name(out, 0, b"; ", names, part, name);
@@ -68,7 +68,7 @@ pub fn header(names: &[u8], part: &[u8], head: &[u8], out: &mut [u8]) -> usize
 pub fn step_line(names: &[u8], part: &[u8], steps: &[u8], at: usize, out: &mut [u8]) -> Line
     requires { ⌜ (TextsIndexed (now names) (now part)) × ((at ≤ length (now steps)) × (StepThere (textCount (now names)) (drop at (now steps)))) ⌝ }
     requires { ⌜ 8192 ≤ length (now out) ⌝ }
-    ensures { λ r. ⌜ Put (now (out .entry)) 0 (stepText (textsIn (now (names .entry))) (stepIn (drop at (now (steps .entry))))) (now (out .exit)) (r .length) ⌝ }
+    ensures { λ r. ⌜ (Put (now (out .entry)) 0 (stepText (textsIn (now (names .entry))) (stepIn (drop at (now (steps .entry))))) (now (out .exit)) (r .length)) × (r .length ≤ 8192) ⌝ }
     ensures { λ r. ⌜ r .next ≡ at + stepSize (drop at (now (steps .entry))) ⌝ }
 {
     let step = &steps[at..];
@@ -81,7 +81,7 @@ pub fn step_line(names: &[u8], part: &[u8], steps: &[u8], at: usize, out: &mut [
 fn put_step(names: &[u8], part: &[u8], step: &[u8], out: &mut [u8]) -> usize
     requires { ⌜ (TextsIndexed (now names) (now part)) × (StepThere (textCount (now names)) (now step)) ⌝ }
     requires { ⌜ 8192 ≤ length (now out) ⌝ }
-    ensures { λ r. ⌜ Put (now (out .entry)) 0 (stepText (textsIn (now (names .entry))) (stepIn (now (step .entry)))) (now (out .exit)) r ⌝ }
+    ensures { λ r. ⌜ (Put (now (out .entry)) 0 (stepText (textsIn (now (names .entry))) (stepIn (now (step .entry)))) (now (out .exit)) r) × (r ≤ 8192) ⌝ }
 {
     let place = put_place(out, 0, step);
     let wrote = put_wrote(out, place, names, part, step);
@@ -93,7 +93,7 @@ fn put_step(names: &[u8], part: &[u8], step: &[u8], out: &mut [u8]) -> usize
 pub fn stop_line(names: &[u8], part: &[u8], stop: &[u8], out: &mut [u8]) -> usize
     requires { ⌜ (TextsIndexed (now names) (now part)) × (StopThere (textCount (now names)) (now stop)) ⌝ }
     requires { ⌜ 8192 ≤ length (now out) ⌝ }
-    ensures { λ r. ⌜ Put (now (out .entry)) 0 (stopLine (textsIn (now (names .entry))) (stopIn (now (stop .entry)))) (now (out .exit)) r ⌝ }
+    ensures { λ r. ⌜ (Put (now (out .entry)) 0 (stopLine (textsIn (now (names .entry))) (stopIn (now (stop .entry)))) (now (out .exit)) r) × (r ≤ 8192) ⌝ }
 {
     let start = put_text(out, 0, b"; ");
     let end = put_stop(out, start, names, part, stop);
@@ -104,7 +104,7 @@ pub fn stop_line(names: &[u8], part: &[u8], stop: &[u8], out: &mut [u8]) -> usiz
 pub fn variable_line(names: &[u8], part: &[u8], variables: &[u8], at: usize, out: &mut [u8]) -> Line
     requires { ⌜ (TextsIndexed (now names) (now part)) × ((at ≤ length (now variables)) × (VariableThere (textCount (now names)) (drop at (now variables)))) ⌝ }
     requires { ⌜ 8192 ≤ length (now out) ⌝ }
-    ensures { λ r. ⌜ Put (now (out .entry)) 0 (variableLine (textsIn (now (names .entry))) (numberAt (drop at (now (variables .entry))) 0 2, valueIn (drop at (now (variables .entry))) 2)) (now (out .exit)) (r .length) ⌝ }
+    ensures { λ r. ⌜ (Put (now (out .entry)) 0 (variableLine (textsIn (now (names .entry))) (numberAt (drop at (now (variables .entry))) 0 2, valueIn (drop at (now (variables .entry))) 2)) (now (out .exit)) (r .length)) × (r .length ≤ 8192) ⌝ }
     ensures { λ r. ⌜ r .next ≡ at + 16 ⌝ }
 {
     let variable = &variables[at..];
@@ -119,7 +119,7 @@ pub fn variable_line(names: &[u8], part: &[u8], variables: &[u8], at: usize, out
 fn put_variable(names: &[u8], part: &[u8], variable: &[u8], out: &mut [u8]) -> usize
     requires { ⌜ (TextsIndexed (now names) (now part)) × (VariableThere (textCount (now names)) (now variable)) ⌝ }
     requires { ⌜ 8192 ≤ length (now out) ⌝ }
-    ensures { λ r. ⌜ Put (now (out .entry)) 0 (variableLine (textsIn (now (names .entry))) (numberAt (now (variable .entry)) 0 2, valueIn (now (variable .entry)) 2)) (now (out .exit)) r ⌝ }
+    ensures { λ r. ⌜ (Put (now (out .entry)) 0 (variableLine (textsIn (now (names .entry))) (numberAt (now (variable .entry)) 0 2, valueIn (now (variable .entry)) 2)) (now (out .exit)) r) × (r ≤ 8192) ⌝ }
 {
     let name = layout::get16(variable, 0) as usize;
     let named = put_named(out, 0, b";   ", names, part, name, b" = ");

@@ -16,9 +16,11 @@ returns c =
     let at-get64 = c .before .before .before .before in
     let at-put-name = at-get64 .before .before .before .before .before in
     let at-get16 = at-put-name .before .before .before in
-    let at-start = at-get16 .before .before .before .before .before in
-    put-as (put-after (text "; ") (nameText (textsIn (now (at-start .args .names))) (at-get16 .get16 .result)) (at-put-name .put-name .ensures .0) (c .before .before .put-numbered .ensures .0))
-    (ap₂ (λ (n a : ℕ). headerText (textsIn (now (at-start .args .names))) n a) (at-get16 .get16 .ensures .0) (at-get64 .get64 .ensures))
+    let at-start = at-get16 .before .before .before .before .before in (
+      put-as (put-after (text "; ") (nameText (textsIn (now (at-start .args .names))) (at-get16 .get16 .result)) (at-put-name .put-name .ensures .0) (c .before .before .put-numbered .ensures .0))
+          (ap₂ (λ (n a : ℕ). headerText (textsIn (now (at-start .args .names))) n a) (at-get16 .get16 .ensures .0) (at-get64 .get64 .ensures)),
+      search needs,
+    )
 
 pub header-spec : {M : Type 1} → statement M
 header-spec =

@@ -1,6 +1,7 @@
 use Rattle.text.proofs.PutLaws.{put-as, put-then, put-third}
 use denote.Ref.{now}
 use mathlib.Core.Path.{ap₂}
+use native.Mathlib.Omega.{arith}
 use Rattle.layout.specs.Text.{text}
 use Prim.Native.Nat.{ℕ}
 use Rattle.files.specs.Program.{textsIn}
@@ -26,9 +27,11 @@ returns c =
     let at-value-at = at-put-value .before in
     let at-put-named = at-value-at .before .before .before .before in
     let at-get16 = at-put-named .before .before .before .before in
-    let at-start = at-get16 .before .before .before .before .before in
-    put-as (put-third (text ";   ") (nameText (textsIn (now (at-start .args .names))) (at-get16 .get16 .result)) (text " = ") (at-put-named .put-named .ensures .0) (put-then (at-put-value .put-value .ensures .0) (c .before .before .put-text .ensures)))
-    (ap₂ (λ (n : ℕ) (v : Val). variableLine (textsIn (now (at-start .args .names))) (n, v)) (at-get16 .get16 .ensures .0) (at-value-at .value-at .ensures))
+    let at-start = at-get16 .before .before .before .before .before in (
+      put-as (put-third (text ";   ") (nameText (textsIn (now (at-start .args .names))) (at-get16 .get16 .result)) (text " = ") (at-put-named .put-named .ensures .0) (put-then (at-put-value .put-value .ensures .0) (c .before .before .put-text .ensures)))
+          (ap₂ (λ (n : ℕ) (v : Val). variableLine (textsIn (now (at-start .args .names))) (n, v)) (at-get16 .get16 .ensures .0) (at-value-at .value-at .ensures)),
+      omega (arith, c .before .before .put-text .ensures .end),
+    )
 
 pub put-variable-spec : {M : Type 1} → statement M
 put-variable-spec =

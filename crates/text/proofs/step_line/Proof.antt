@@ -29,7 +29,7 @@ returns : tie.Need-returns
 returns c =
     let at-step-size = c .before .before .before .before in
     let at-start = at-step-size .before .before .before .before .before .before in (
-      put-as (c .before .before .put-step .ensures) (ap (λ (l : List ℕ). stepText (textsIn (now (at-start .args .names))) (stepIn l)) (rest-of (now (at-start .args .steps)) (at-start .args .at))),
+      (put-as (c .before .before .put-step .ensures .0) (ap (λ (l : List ℕ). stepText (textsIn (now (at-start .args .names))) (stepIn l)) (rest-of (now (at-start .args .steps)) (at-start .args .at))), c .before .before .put-step .ensures .1),
       ap (λ (n : ℕ). at-start .args .at + n) (at-step-size .step-size .ensures .0 ∙ ap stepSize (rest-of (now (at-start .args .steps)) (at-start .args .at))),
     )
 

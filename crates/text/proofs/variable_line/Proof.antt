@@ -22,7 +22,7 @@ returns : tie.Need-returns
 returns c =
     let at-shared-slice-known3 = c .before .before .before .before .before .before in
     let at-start = at-shared-slice-known3 .before .before .before in
-    (put-as (c .before .before .put-variable .ensures) (ap (λ (l : List ℕ). variableLine (textsIn (now (at-start .args .names))) (numberAt l 0 2, valueIn l 2)) (rest-of (now (at-start .args .variables)) (at-start .args .at))), refl)
+    ((put-as (c .before .before .put-variable .ensures .0) (ap (λ (l : List ℕ). variableLine (textsIn (now (at-start .args .names))) (numberAt l 0 2, valueIn l 2)) (rest-of (now (at-start .args .variables)) (at-start .args .at))), c .before .before .put-variable .ensures .1), refl)
 
 pub variable-line-spec : {M : Type 1} → statement M
 variable-line-spec =
