@@ -39,7 +39,8 @@ returns : tie.Need-returns
 unfolding piece
 returns c =
     let u = c .before .before in
-    let x = u .before .before .before .before .before .before .before in
+    let x′ = u .before .before .before .before in
+    let x = x′ .before .before .before in
     let m = x .args .m in
     slid-up (now (x .args .part)) (m .from * entrySize) (m .to * entrySize) (m .count * entrySize) (omega (arith, x .pre)) _ (omega (arith, u .before .before .if1 .taken)) (u .up .ensures)
 

@@ -73,7 +73,8 @@ same-length-2 c = search needs
 returns-2 : tie.Need-returns-2
 returns-2 c =
     let r = c .before .before in
-    let f = r .before .before .before .before .before .before .before in
+    let f′ = r .before .before .before .before in
+    let f = f′ .before .before .before in
     let x = f .before .before .before in
     let m = entries (now (x .args .part)) (x .args .count) in
     stores-as (stores (x .args .address) (le 1 (x .args .byte)) m) (store (x .args .address) (x .args .byte) m) (now (x .args .part)) (r .insert .last .0) (r .insert .result)

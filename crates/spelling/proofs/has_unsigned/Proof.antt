@@ -43,7 +43,10 @@ returns c =
     unsigned-here s i e h q (sym (c .before .is-unsigned .ensures) ∙ c .if1 .taken) ∙ sym (l .loop .inv)
 
 add-i : tie.Need-add-i Inv-loop μ-loop
-add-i c = omega (arith, end-within (now (c .before .before .before .before .before .before .before .args .s)) (c .before .before .before .before .before .loop .i) (c .before .before .before .piece-end .result) (c .before .before .before .before .loop-test .taken) (c .before .before .before .piece-end .ensures))
+add-i c =
+    let e = c .before .before .before in
+    let l = e .before .before in
+    omega (arith, end-within (now (l .before .before .args .s)) (l .loop .i) (e .piece-end .result) (e .before .loop-test .taken) (e .piece-end .ensures))
 
 loop-less : tie.Need-loop-less Inv-loop μ-loop
 loop-less c = omega (arith, c .before .before .before .piece-end .ensures, c .before .before .before .before .loop-test .taken)

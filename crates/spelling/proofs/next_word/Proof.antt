@@ -46,7 +46,10 @@ returns c =
     record { within = end-within s i e h q; order = omega arith; words = l .loop .inv ∙ base-kept s i e h q t }
 
 add-i : tie.Need-add-i Inv-loop μ-loop
-add-i c = omega (arith, end-within (now (c .before .before .before .before .before .before .before .args .s)) (c .before .before .before .before .before .loop .i) (c .before .before .before .piece-end .result) (c .before .before .before .before .loop-test .taken) (c .before .before .before .piece-end .ensures))
+add-i c =
+    let e = c .before .before .before in
+    let l = e .before .before in
+    omega (arith, end-within (now (l .before .before .args .s)) (l .loop .i) (e .piece-end .result) (e .before .loop-test .taken) (e .piece-end .ensures))
 
 loop-less : tie.Need-loop-less Inv-loop μ-loop
 loop-less c = omega (arith, c .before .before .before .piece-end .ensures, c .before .before .before .before .loop-test .taken)

@@ -31,7 +31,7 @@ first-word c = take (c .a .given .0 .1 .0 - c .a .given .0 .0) (drop (c .a .give
 
 -- and its second
 abbrev text-of : tie.After-c → List ℕ
-text-of c = text (c .before .before .before .before .before .before .before)
+text-of c = let k : tie.After-a = c .before .before .before .before in text (k .before .before .before)
 
 second : (c : tie.After-c) → FoundAt (text-of c) (c .before .before .before .before .a .given .0 .1 .0 + 1) (c .c .given .0 .0) (c .c .given .0 .1 .0)
 second c = subst (Found (text-of c) (c .before .before .before .before .a .given .0 .1 .0 + 1)) (c .c .given .1) (c .before .before .next-word2 .ensures)
@@ -93,13 +93,13 @@ returns-4 c =
     ∙ ap (λ (l : List (List ℕ)). first-word k ∷ second-word j ∷ l) (f .words))
 
 sub-type-of-two : tie.Need-sub-type-of-two
-sub-type-of-two c = first (c .before .before .before .before .before .before .before .before) .order
+sub-type-of-two c = let k = c .before .before .before .before in first (k .before .before .before .before) .order
 
 part-type-of-two-start : tie.Need-part-type-of-two-start
-part-type-of-two-start c = first (c .before .before .before .before .before .before .before .before) .order
+part-type-of-two-start c = let k = c .before .before .before .before in first (k .before .before .before .before) .order
 
 part-type-of-two-end : tie.Need-part-type-of-two-end
-part-type-of-two-end c = first (c .before .before .before .before .before .before .before .before) .within
+part-type-of-two-end c = let k = c .before .before .before .before in first (k .before .before .before .before) .within
 
 sub-type-of-two-2 : tie.Need-sub-type-of-two-2
 sub-type-of-two-2 c = second (c .before .before .before .before .before) .order
@@ -112,7 +112,8 @@ part-type-of-two-end-2 c = second (c .before .before .before .before .before) .w
 
 returns-5 : tie.Need-returns-5
 returns-5 c =
-    let j : tie.After-c = c .before .before .before .before .before .before .before in
+    let j′ = c .before .before .before .before in
+    let j : tie.After-c = j′ .before .before .before in
     let k : tie.After-a = j .before .before .before .before in
     let h : tie.After-has-unsigned = k .before .before .before in
     c .type-of-two .ensures

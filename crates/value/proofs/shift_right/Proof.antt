@@ -13,15 +13,16 @@ use Rattle.value.proofs.shift_right.Statement.{statement}
 use Rattle.value.proofs.shift_right.Tie as tie
 
 shr-known : tie.Need-shr-known
-shr-known c = omega (arith, c .before .before .before .shift-count .ensures, count-lt (c .before .before .before .before .before .before .before .args .l) (c .before .before .before .before .before .before .before .args .r))
+shr-known c = let k = c .before .before .before in let s = k .before .before .before .before .args in omega (arith, k .shift-count .ensures, count-lt (s .l) (s .r))
 
 shr-known-2 : tie.Need-shr-known-2
-shr-known-2 c = omega (arith, c .before .before .before .shift-count .ensures, count-lt (c .before .before .before .before .before .before .before .args .l) (c .before .before .before .before .before .before .before .args .r))
+shr-known-2 c = let k = c .before .before .before in let s = k .before .before .before .before .args in omega (arith, k .shift-count .ensures, count-lt (s .l) (s .r))
 
 returns : tie.Need-returns
 unfolding shift
 returns c =
-    let s : tie.Start = c .before .before .before .before .before .before .before .before in
+    let s′ = c .before .before .before .before in
+    let s : tie.Start = s′ .before .before .before .before in
     c .known .ensures
     ∙ word-is (2 ^ 64 - 1 - (2 ^ 64 - 1 - c .before .before .before .extended .result) / 2 ^ c .before .before .before .before .shift-count .result) (shrZ (meaning (s .args .l)) (2 ^ countOf (s .args .l) (s .args .r))) (typeOfVal (s .args .l))
     (ap₂ (λ (x k : ℕ). 2 ^ 64 - 1 - (2 ^ 64 - 1 - x) / 2 ^ k) (c .before .before .before .extended .ensures) (c .before .before .before .before .shift-count .ensures)
@@ -31,7 +32,8 @@ returns c =
 returns-2 : tie.Need-returns-2
 unfolding shift
 returns-2 c =
-    let s : tie.Start = c .before .before .before .before .before .before .before .before in
+    let s′ = c .before .before .before .before in
+    let s : tie.Start = s′ .before .before .before .before in
     c .known2 .ensures
     ∙ word-is (c .before .before .before .extended .result / 2 ^ c .before .before .before .before .shift-count .result) (shrZ (meaning (s .args .l)) (2 ^ countOf (s .args .l) (s .args .r))) (typeOfVal (s .args .l))
     (ap₂ (λ (x k : ℕ). x / 2 ^ k) (c .before .before .before .extended .ensures) (c .before .before .before .before .shift-count .ensures)

@@ -17,5 +17,6 @@ ok t = lts.spec (execute-below t, execute.Post, value-of-reads.Asked, value-of-r
     (λ c. search needs)  -- same-length-2
     (λ c.  -- returns
     let a = c .before .before .before .before .before in
-    let s = a .before .before .before .before .before .before .before .before in
+    let s′ = a .before .before .before .before in
+    let s = s′ .before .before .before .before in
     assigned-evals (s .pre .1 .1 .1) (a .execute .ensures) (c .value-of .ensures))

@@ -33,19 +33,26 @@ ok t = lts.spec (next-reads.Asked, next-reads.Learnt, eval-below t, eval.Post, o
     ))
     (λ c. search needs)  -- enum-known-p
     (λ c κs.  -- operate-requires
-    let b = c .before .before .before .before .before .before .before in
-    let a = b .before .before .before .before .before .before .before .before .before .before in
-    let s = a .before .before .before .before .before .before .before .before .before in
+    let b′ = c .before .before .before .before in
+    let b = b′ .before .before .before in
+    let a′ = b .before .before .before .before .before in
+    let a = a′ .before .before .before .before .before in
+    let s′ = a .before .before .before .before .before in
+    let s = s′ .before .before .before .before in
     room (s .pre .1 .1 .0))
     (λ c. search needs)  -- enum-told
     (λ c. search needs)  -- enum-told-2
     (λ c.  -- same-length
-    let b = c .before .before .before .before .before .before .before .before in
-    let a = b .before .before .before .before .before .before .before .before .before .before in
+    let b′ = c .before .before .before .before in
+    let b = b′ .before .before .before .before in
+    let a′ = b .before .before .before .before .before in
+    let a = a′ .before .before .before .before .before in
     b .eval2 .kept .1 .1 .1 .0 ∙ a .eval .kept .1 .1 .1 .0)
     (λ c.  -- same-length-2
-    let b = c .before .before .before .before .before .before .before .before in
-    let a = b .before .before .before .before .before .before .before .before .before .before in
+    let b′ = c .before .before .before .before in
+    let b = b′ .before .before .before .before in
+    let a′ = b .before .before .before .before .before in
+    let a = a′ .before .before .before .before .before in
     b .eval2 .kept .1 .1 .1 .1 .0 ∙ a .eval .kept .1 .1 .1 .1 .0)
     (λ c.  -- returns
     let p = c .before .before in
@@ -68,5 +75,6 @@ ok t = lts.spec (next-reads.Asked, next-reads.Learnt, eval-below t, eval.Post, o
     (λ c. search needs)  -- same-length-6
     (λ c.  -- returns-3
     let a = c .before .before .before .before .before .before in
-    let s = a .before .before .before .before .before .before .before .before .before in
+    let s′ = a .before .before .before .before .before in
+    let s = s′ .before .before .before .before in
     binary-short (s .pre .1 .1 .1) (a .eval .ensures) (c .enum-told2 .given .1))

@@ -24,7 +24,8 @@ ok t = lts.spec (next-reads.Asked, next-reads.Learnt, args-below t, args.Post, c
     (λ c. search needs)  -- slice-aggregate-called
     (λ c κs.  -- called-requires
     let e = c .before .before .before in
-    let r = e .before .before .before .before .before .before .before in
+    let r′ = e .before .before .before .before in
+    let r = r′ .before .before .before in
     let l = r .before .before .before .before in
     let m = l .before in
     let s = m .before .before .before .before .before .before in (
@@ -47,7 +48,8 @@ ok t = lts.spec (next-reads.Asked, next-reads.Learnt, args-below t, args.Post, c
     (λ c.  -- returns
     let b = c .before .before .before .before in
     let e = b .before .before .before .before in
-    let r = e .before .before .before .before .before .before .before in
+    let r′ = e .before .before .before .before in
+    let r = r′ .before .before .before in
     let l = r .before .before .before .before in
     let m = l .before in
     let s = m .before .before .before .before .before .before in
@@ -56,7 +58,8 @@ ok t = lts.spec (next-reads.Asked, next-reads.Learnt, args-below t, args.Post, c
     (λ c. search needs)  -- same-length-4
     (λ c.  -- returns-2
     let o = c .before .before in
-    let r = o .before .before .before .before .before .before .before in
+    let r′ = o .before .before .before .before in
+    let r = r′ .before .before .before in
     let l = r .before .before .before .before in
     let m = l .before in
     let s = m .before .before .before .before .before .before in

@@ -22,7 +22,8 @@ ok t = lts.spec (eval-below t, eval.Post, cast-reads.Asked, cast-reads.Learnt) (
     (λ c.  -- returns
     let o = c .before .before .before in
     let a = o .before .before .before .before .before .before in
-    let s = a .before .before .before .before .before .before .before .before in
+    let s′ = a .before .before .before .before in
+    let s = s′ .before .before .before .before in
     cast-evals (s .pre .1 .1 .1) (a .eval .ensures) (o .o .given .1) (c .cast .ensures))
     (λ c. search needs)  -- same-length-3
     (λ c. search needs)  -- same-length-4

@@ -19,7 +19,8 @@ ok t = lts.spec (pointer-below t, pointer.Post, load-reads.Asked, load-reads.Lea
     (λ c κs.  -- load-requires
     let o = c .before .before .before in
     let a = o .before .before .before .before .before .before in
-    let s = a .before .before .before .before .before .before .before .before in (
+    let s′ = a .before .before .before .before in
+    let s = s′ .before .before .before .before in (
       pointed-fit (a .pointer .ensures) (o .o .given .1) (deref-kid (s .pre .1 .1 .1) (s .pre .1 .1 .0)),
       (
         pointed-regions (a .pointer .ensures) (o .o .given .1) (deref-kid (s .pre .1 .1 .1) (s .pre .1 .1 .0)),
@@ -34,12 +35,14 @@ ok t = lts.spec (pointer-below t, pointer.Post, load-reads.Asked, load-reads.Lea
     let b = c .before .before in
     let o = b .before .before .before .before in
     let a = o .before .before .before .before .before .before in
-    let s = a .before .before .before .before .before .before .before .before in
+    let s′ = a .before .before .before .before in
+    let s = s′ .before .before .before .before in
     deref-evals (s .pre .1 .1 .1) (a .pointer .ensures) (o .o .given .1) (b .load .ensures))
     (λ c. search needs)  -- same-length-3
     (λ c. search needs)  -- same-length-4
     (λ c.  -- returns-2
     let o = c .before .before in
     let a = o .before .before .before .before .before .before in
-    let s = a .before .before .before .before .before .before .before .before in
+    let s′ = a .before .before .before .before in
+    let s = s′ .before .before .before .before in
     deref-short (s .pre .1 .1 .1) (a .pointer .ensures) (o .o2 .given .1) (c .ends .ensures))

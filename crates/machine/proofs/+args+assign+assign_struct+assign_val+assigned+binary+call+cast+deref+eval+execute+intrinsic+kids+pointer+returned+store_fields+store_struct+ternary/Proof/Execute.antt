@@ -26,7 +26,8 @@ ok t = lts.spec (kind-reads.Asked, kind-reads.Learnt, assign-below t, assign.Pos
     (λ c κs.  -- executed-requires
     let o = c .before .before in
     let a = o .before .before .before .before .before .before in
-    let s = a .before .before .before .before .before .before .before .before .before .before in
+    let s′ = a .before .before .before .before .before in
+    let s = s′ .before .before .before .before .before in
     fit-on (a .eval .ensures) (o .o .given .1) (s .pre .1 .1) .room)
     (λ c. search needs)  -- enum-known-o-2
     (λ c κs. search needs)  -- fails-requires

@@ -21,5 +21,6 @@ ok t = lts.spec (target-of-reads.Asked, target-of-reads.Learnt, eval-below t, ev
     (λ c.  -- returns
     let a = c .before .before .before .before .before in
     let m = a .before .before .before in
-    let s = m .before .before .before .before .before .before .before in
+    let s′ = m .before .before .before .before in
+    let s = s′ .before .before .before in
     pointer-points (s .pre .1 .0) (s .pre .1 .1) (m .target-of .ensures) (a .eval .ensures) (c .pointed .ensures))

@@ -18,14 +18,17 @@ ok t = lts.spec (fails-reads.Asked, fails-reads.Learnt, next-reads.Asked, next-r
     (λ c κs. search needs)  -- fails-requires
     (λ c.  -- returns
     let i = c .before in
-    let s = i .before .before .before .before .before .before .before in
+    let s′ = i .before .before .before .before in
+    let s = s′ .before .before .before in
     unknown-stores (not-true _ (i .if1 .taken)) (s .pre .1 .0) (c .fails .ensures))
     (λ c. search (needs, room))  -- add-first
     (λ c κs. search (needs, room))  -- next-requires
     (λ c κs. search (needs, first-falls, struct-fields))  -- store-fields-requires
     (λ c κs.  -- built-requires
-    let m = c .before .before .before .before .before .before .before in
-    let s = m .before .before .before .before .before .before .before .before in
+    let m′ = c .before .before .before .before in
+    let m = m′ .before .before .before in
+    let s′ = m .before .before .before .before in
+    let s = s′ .before .before .before .before in
     struct-fields (s .pre .1 .1 .1) (s .pre .1 .1 .0) (m .next .ensures))
     (λ c. search needs)  -- same-length
     (λ c. search needs)  -- same-length-2
@@ -33,5 +36,6 @@ ok t = lts.spec (fails-reads.Asked, fails-reads.Learnt, next-reads.Asked, next-r
     let r = c .before .before .before .before .before in
     let m = r .before .before .before in
     let i = m .before in
-    let s = i .before .before .before .before .before .before .before in
+    let s′ = i .before .before .before .before in
+    let s = s′ .before .before .before in
     known-stores (not-false _ (i .if1 .left)) (s .pre .1 .1 .1) (m .next .ensures) (r .store-fields .ensures) (c .built .ensures))

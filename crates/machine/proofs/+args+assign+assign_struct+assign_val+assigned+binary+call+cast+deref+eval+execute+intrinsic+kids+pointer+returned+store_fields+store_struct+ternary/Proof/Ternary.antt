@@ -36,7 +36,8 @@ ok t = lts.spec (next-reads.Asked, next-reads.Learnt, eval-below t, eval.Post, c
     (λ c κs.  -- eval-requires-3
     let p = c .before .before .before in
     let b = p .before .before .before .before .before .before in
-    let a = b .before .before .before .before .before .before .before .before .before .before in
+    let a′ = b .before .before .before .before .before in
+    let a = a′ .before .before .before .before .before in
     let l = a .before .before .before in
     let m = l .before in
     let s = m .before .before .before .before .before .before in (
@@ -52,14 +53,20 @@ ok t = lts.spec (next-reads.Asked, next-reads.Learnt, eval-below t, eval.Post, c
     (λ c. search needs)  -- enum-told-2
     (λ c. search needs)  -- enum-told-3
     (λ c.  -- same-length
-    let d = c .before .before .before .before .before .before .before .before in
-    let b = d .before .before .before .before .before .before .before .before .before .before in
-    let a = b .before .before .before .before .before .before .before .before .before .before in
+    let d′ = c .before .before .before .before in
+    let d = d′ .before .before .before .before in
+    let b′ = d .before .before .before .before .before in
+    let b = b′ .before .before .before .before .before in
+    let a′ = b .before .before .before .before .before in
+    let a = a′ .before .before .before .before .before in
     d .eval3 .kept .1 .1 .1 .0 ∙ b .eval2 .kept .1 .1 .1 .0 ∙ a .eval .kept .1 .1 .1 .0)
     (λ c.  -- same-length-2
-    let d = c .before .before .before .before .before .before .before .before in
-    let b = d .before .before .before .before .before .before .before .before .before .before in
-    let a = b .before .before .before .before .before .before .before .before .before .before in
+    let d′ = c .before .before .before .before in
+    let d = d′ .before .before .before .before in
+    let b′ = d .before .before .before .before .before in
+    let b = b′ .before .before .before .before .before in
+    let a′ = b .before .before .before .before .before in
+    let a = a′ .before .before .before .before .before in
     d .eval3 .kept .1 .1 .1 .1 .0 ∙ b .eval2 .kept .1 .1 .1 .1 .0 ∙ a .eval .kept .1 .1 .1 .1 .0)
     (λ c.  -- returns
     let q = c .before .before in
@@ -74,13 +81,17 @@ ok t = lts.spec (next-reads.Asked, next-reads.Learnt, eval-below t, eval.Post, c
     ternary-evals (s .pre .1 .1 .1) (a .eval .ensures) (o .o .given .1) (m .next .ensures) (b .eval2 .ensures) (p .p .given .1) (l .next2 .ensures) (d .eval3 .ensures) (q .q .given .1) (c .choose .ensures))
     (λ c.  -- same-length-3
     let d = c .before .before .before .before .before .before in
-    let b = d .before .before .before .before .before .before .before .before .before .before in
-    let a = b .before .before .before .before .before .before .before .before .before .before in
+    let b′ = d .before .before .before .before .before in
+    let b = b′ .before .before .before .before .before in
+    let a′ = b .before .before .before .before .before in
+    let a = a′ .before .before .before .before .before in
     d .eval3 .kept .1 .1 .1 .0 ∙ b .eval2 .kept .1 .1 .1 .0 ∙ a .eval .kept .1 .1 .1 .0)
     (λ c.  -- same-length-4
     let d = c .before .before .before .before .before .before in
-    let b = d .before .before .before .before .before .before .before .before .before .before in
-    let a = b .before .before .before .before .before .before .before .before .before .before in
+    let b′ = d .before .before .before .before .before in
+    let b = b′ .before .before .before .before .before in
+    let a′ = b .before .before .before .before .before in
+    let a = a′ .before .before .before .before .before in
     d .eval3 .kept .1 .1 .1 .1 .0 ∙ b .eval2 .kept .1 .1 .1 .1 .0 ∙ a .eval .kept .1 .1 .1 .1 .0)
     (λ c.  -- returns-2
     let d = c .before .before .before .before .before .before in
@@ -94,11 +105,13 @@ ok t = lts.spec (next-reads.Asked, next-reads.Learnt, eval-below t, eval.Post, c
     ternary-short-third (s .pre .1 .1 .1) (a .eval .ensures) (o .o .given .1) (m .next .ensures) (b .eval2 .ensures) (p .p .given .1) (l .next2 .ensures) (d .eval3 .ensures) (c .enum-told .given .1))
     (λ c.  -- same-length-5
     let b = c .before .before .before .before .before .before in
-    let a = b .before .before .before .before .before .before .before .before .before .before in
+    let a′ = b .before .before .before .before .before in
+    let a = a′ .before .before .before .before .before in
     b .eval2 .kept .1 .1 .1 .0 ∙ a .eval .kept .1 .1 .1 .0)
     (λ c.  -- same-length-6
     let b = c .before .before .before .before .before .before in
-    let a = b .before .before .before .before .before .before .before .before .before .before in
+    let a′ = b .before .before .before .before .before in
+    let a = a′ .before .before .before .before .before in
     b .eval2 .kept .1 .1 .1 .1 .0 ∙ a .eval .kept .1 .1 .1 .1 .0)
     (λ c.  -- returns-3
     let b = c .before .before .before .before .before .before in
@@ -111,5 +124,6 @@ ok t = lts.spec (next-reads.Asked, next-reads.Learnt, eval-below t, eval.Post, c
     (λ c. search needs)  -- same-length-8
     (λ c.  -- returns-4
     let a = c .before .before .before .before .before .before in
-    let s = a .before .before .before .before .before .before .before .before .before .before in
+    let s′ = a .before .before .before .before .before in
+    let s = s′ .before .before .before .before .before in
     ternary-short (s .pre .1 .1 .1) (a .eval .ensures) (c .enum-told3 .given .1))

@@ -15,7 +15,8 @@ take-all-requires c κs = search (needs, call-args)
 
 returns : tie.Need-returns
 returns c =
-    let f : tie.After-follow = c .before .before .before .before .before .before .before in
+    let f′ = c .before .before .before .before in
+    let f : tie.After-follow = f′ .before .before .before in
     let m : tie.After-next = f .before .before .before in
     let s : tie.Start = m .before .before .before .before .before in
     called-does (s .pre .1 .1 .0) (m .next .ensures) (f .before .before .next2 .ensures) (f .follow .ensures) (c .before .before .before .take-all .ensures) (c .unknown .ensures)

@@ -9,7 +9,8 @@ returns c = search (needs, other-address)
 
 ask-address-requires : tie.Need-ask-address-requires
 ask-address-requires c κs =
-    let s : tie.Start = c .before .before .before .before .before .before .before in
+    let s′ = c .before .before .before .before in
+    let s : tie.Start = s′ .before .before .before in
     (s .pre .0 .room, (s .pre .1 .0, (s .pre .1 .1, same-kind (c .before .before .kind .ensures) (c .before .if1 .left))))
 
 returns-2 : tie.Need-returns-2

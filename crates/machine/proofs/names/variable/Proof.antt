@@ -9,7 +9,8 @@ variable-requires c κs = search (needs, name-below)
 returns : tie.Need-returns
 returns c =
     let v : tie.After-variable = c .before .before .before .before in
-    let s : tie.Start = v .before .before .before .before .before .before .before in
+    let s′ = v .before .before .before .before in
+    let s : tie.Start = s′ .before .before .before in
     variable-set (v .before .reference .ensures .0) (v .variable .ensures) (c .before .before .slot .given .1) (s .pre .0) (c .is .ensures)
 
 returns-2 : tie.Need-returns-2

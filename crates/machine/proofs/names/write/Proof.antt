@@ -11,9 +11,11 @@ set-variable-requires c κs = search (needs, name-below)
 
 returns : tie.Need-returns
 returns c =
-    let t : tie.After-declaration = c .before .before .before .before .before .before .before in
+    let t′ = c .before .before .before .before in
+    let t : tie.After-declaration = t′ .before .before .before in
     let d : tie.After-declared = t .before .before in
-    let s : tie.Start = d .before .before .before .before .before .before .before in
+    let s′ = d .before .before .before .before in
+    let s : tie.Start = s′ .before .before .before in
     declared-writes (s .pre .1 .1 .0) (s .pre .1 .1 .1) (d .before .before .reference .ensures .0) (d .declared .ensures) (t .declaration .given .1) (c .before .before .before .before .before .cast .ensures) (c .before .before .before .set-variable .ensures)
     (c .wrote .ensures)
 

@@ -10,7 +10,8 @@ use Rattle.text.proofs.parts.put_name.Tie as tie
 
 put-text-requires-2 : tie.Need-put-text-requires-2
 put-text-requires-2 c κs =
-    let a = c .before .before .before .before .before .before .before .before .before .before .args in
+    let a′ = c .before .before .before .before .before in
+    let a = a′ .before .before .before .before .before .args in
     omega (arith, name-short (now (a .names)) (a .name), ap length (c .text .ensures))
 
 returns : tie.Need-returns

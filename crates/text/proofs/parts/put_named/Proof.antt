@@ -9,7 +9,8 @@ use Rattle.text.proofs.parts.put_named.Tie as tie
 returns : tie.Need-returns
 returns c =
     let n = c .before .before .before .before .before .before in
-    let a = n .before .before .before .before .before .before .before .args in
+    let a′ = n .before .before .before .before in
+    let a = a′ .before .before .before .args in
     (put-after (now (a .before)) (nameText (textsIn (now (a .names))) (a .name)) (n .put-name .ensures .0) (c .before .before .put-text .ensures), search needs)
 
 pub put-named-spec : {M : Type 1} → statement M

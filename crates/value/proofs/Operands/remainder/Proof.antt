@@ -22,7 +22,8 @@ returns c = c .by-zero .ensures ∙ pick-true _ (eq-eqb _ _ (sym (c .before .bef
 returns-2 : tie.Need-returns-2
 unfolding division
 returns-2 c =
-    let p : Operands = c .before .before .before .before .before .before .before .args .self in
+    let p′ = c .before .before .before .before in
+    let p : Operands = p′ .before .before .before .args .self in
     ap Value
     (c .result .ensures
     ∙ result-is p remZ (c .before .signed-word .result)
