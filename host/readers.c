@@ -123,48 +123,20 @@ static void check_probe_readers(struct emulate_bytes made)
 }
 
 /* The readers as functions of one type. */
+#define LENGTH_READ(what)                                  \
+    static size_t what##_length(struct emulate_bytes from) \
+    {                                                      \
+        struct emulate_##what what;                        \
+        return emulate_read_##what(from, &what);           \
+    }
 
-static size_t stop_length(struct emulate_bytes from)
-{
-    struct emulate_stop stop;
-    return emulate_read_stop(from, &stop);
-}
-
-static size_t counts_length(struct emulate_bytes from)
-{
-    struct emulate_counts counts;
-    return emulate_read_counts(from, &counts);
-}
-
-static size_t step_length(struct emulate_bytes from)
-{
-    struct emulate_step step;
-    return emulate_read_step(from, &step);
-}
-
-static size_t variable_length(struct emulate_bytes from)
-{
-    struct emulate_variable variable_read;
-    return emulate_read_variable(from, &variable_read);
-}
-
-static size_t written_length(struct emulate_bytes from)
-{
-    struct emulate_written written;
-    return emulate_read_written(from, &written);
-}
-
-static size_t question_length(struct emulate_bytes from)
-{
-    struct emulate_question question;
-    return emulate_read_question(from, &question);
-}
-
-static size_t value_length(struct emulate_bytes from)
-{
-    struct emulate_value value;
-    return emulate_read_value(from, &value);
-}
+LENGTH_READ(stop)
+LENGTH_READ(counts)
+LENGTH_READ(step)
+LENGTH_READ(variable)
+LENGTH_READ(written)
+LENGTH_READ(question)
+LENGTH_READ(value)
 
 /* A reader gives 0 for every part that is too short, and looks at nothing beyond it. */
 static void check_short(size_t (*read)(struct emulate_bytes), struct emulate_bytes whole,

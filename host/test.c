@@ -84,38 +84,33 @@ static void test_empty_files(void)
     refused("three empty files", 1, 257, 65536);
 }
 
+/* One byte changed in a body of `trim`. */
+static void refused_by_byte(const char *what, struct made *body, size_t at, unsigned byte,
+                            uint32_t number)
+{
+    make_trim();
+    body->bytes[at] = (uint8_t)byte;
+    finish(&parts, &routine);
+    refused(what, number, 257, 65536);
+}
+
 /* One fault in each body of the routine. */
 static void test_faults(void)
 {
     make_trim();
     routine.bytes[0] = 5;
     refused("five bodies", 1, 257, 65536);
-    make_trim();
-    parts.names.bytes[1] = 'z';
-    finish(&parts, &routine);
-    refused("names out of order", 2, 257, 65536);
-    make_trim();
-    parts.types.bytes[1] = 0x1f;
-    finish(&parts, &routine);
-    refused("a type with a byte under 0x20", 3, 257, 65536);
-    make_trim();
-    parts.head.bytes[12] = 3;
-    finish(&parts, &routine);
-    refused("more parameters than variables", 4, 257, 65536);
-    make_trim();
-    parts.nodes.bytes[0] = 20;
-    finish(&parts, &routine);
-    refused("kind 20", 5, 257, 65536);
+    refused_by_byte("names out of order", &parts.names, 1, 'z', 2);
+    refused_by_byte("a type with a byte under 0x20", &parts.types, 1, 0x1f, 3);
+    refused_by_byte("more parameters than variables", &parts.head, 12, 3, 4);
+    refused_by_byte("kind 20", &parts.nodes, 0, 20, 5);
+    refused_by_byte("a root past the nodes", &parts.statements, 9, 9, 7);
+    world.length = 0;
+    refused("two faults", 7, 257, 65535);
     make_trim();
     parts.nodes.length--;
     finish(&parts, &routine);
     refused("a node cut off", 6, 257, 65536);
-    make_trim();
-    parts.statements.bytes[9] = 9;
-    finish(&parts, &routine);
-    refused("a root past the nodes", 7, 257, 65536);
-    world.length = 0;
-    refused("two faults", 7, 257, 65535);
 }
 
 static void test_calls(void)

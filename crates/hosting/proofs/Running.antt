@@ -10,6 +10,7 @@ use Rattle.definition.specs.Question.{World, cut}
 use Rattle.definition.specs.Act.{Act, done, fail, ask, act, pending, Pending, End, gave, stopped, Why, _>>=_, Op, peekOp, pokeOp, getOp, setOp, pendingOp, leaveOp, spendOp, emitOp}
 use Rattle.definition.specs.Host.{Host, hosted}
 use Rattle.definition.specs.Run.{addressLimit}
+use Rattle.definition.proofs.Hosts.{goOnFrom, hosted-bind}
 use Rattle.definition.proofs.Grow.{store-grows}
 use Rattle.workspace.specs.Parts.{tables, notePart}
 use Rattle.workspace.specs.Note.{pendingIn}
@@ -18,21 +19,13 @@ use Rattle.hosting.specs.declared.Counts.{Counts}
 use Rattle.hosting.specs.Scene.{Given, Scene, Ready, Meant}
 use Rattle.hosting.specs.Held.{Held, held, codeHost, asked, emitted, replyOf, nextOf}
 use Rattle.hosting.specs.Ending.{Ending, ended, short}
-use Rattle.hosting.specs.Runs.{Came, Kept, Ran, Runs}
+use Rattle.hosting.specs.Runs.{Came, Ran, Runs}
 
 -- ---- a bind
 
+-- what comes of an end when acts go on from it
 abbrev thenOf : {S A B : Type 0} → Host S → (A → Act B) → End A → S → End B × S
-thenOf h f (gave a) s = hosted h (f a) s
-thenOf h f (stopped y) s = (stopped y, s)
-
-module _ {S A B : Type 0} (h : Host S) (f : A → Act B) where
-  pub hosted-bind : (m : Act A) (s : S) → hosted h (m >>= f) s ≡ thenOf h f (hosted h m s .0) (hosted h m s .1)
-  unfolding hosted _>>=_
-  hosted-bind (done a) s = refl
-  hosted-bind (fail y) s = refl
-  hosted-bind (ask κ q k) s = hosted-bind (k (h .answer s κ q)) (h .asking s κ q)
-  hosted-bind (act o k) s = hosted-bind (k (h .reply s o)) (h .next s o)
+thenOf h f e s = goOnFrom e s (λ a s′. hosted h (f a) s′)
 
 module _ {S A B C : Type 0} (h : Host S) (f : A → Act B) (g : B → Act C) where
   pub hosted-assoc : (m : Act A) (s : S) → hosted h ((m >>= f) >>= g) s ≡ hosted h (m >>= λ a. f a >>= g) s
