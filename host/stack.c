@@ -1,4 +1,4 @@
-/* Runs the deepest chains of 64 nodes and the widest trees on a thread with a stack of its own, tells
+/* Runs the deepest chains of 64 nodes and the widest trees on a thread with a stack of 64 KiB, tells
  * how much of it a call used at most, and ends with 1 if that is more than EMULATE_STACK_NEEDED. */
 #define _POSIX_C_SOURCE 200112L
 #include <pthread.h>
@@ -190,9 +190,9 @@ static void make_files(const struct chain *chain, enum place place)
     make_call(&call, 10, 8, NULL, 0);
 }
 
-/* ---- A stack of its own, with room below it that shows how far a call goes */
+/* ---- A stack of 64 KiB, with room below it that shows how far a call goes */
 
-#define STACK (EMULATE_STACK_NEEDED + 16384)
+#define STACK 65536
 #define ROOM 65536
 #define PATTERN 0xa5
 

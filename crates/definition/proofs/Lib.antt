@@ -20,4 +20,5 @@ pub mod Examples
 pub mod ExamplesBudget
 pub mod ExamplesEnds
 pub mod ExamplesMemory
+pub mod ExamplesOrder
 pub mod ExamplesVariables

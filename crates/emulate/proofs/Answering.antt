@@ -16,17 +16,20 @@ use Rattle.definition.proofs.Answered.{refused-by-input, refused-by-workspace, 
 use Rattle.stream.specs.declared.Lengths.{Lengths}
 use Rattle.stream.specs.Bodies.{lastEnd}
 use Rattle.hosting.specs.declared.Counts.{Counts}
+use Rattle.hosting.specs.declared.Indexed.{Indexed}
 use Rattle.hosting.specs.declared.Stop.{Stop}
 use Rattle.hosting.specs.Ending.{Ending, ended}
 use Rattle.hosting.specs.Walking.{stopEnd}
-use Rattle.emulate.specs.Passing.{fullOf, FirstPassed, FirstPassedIf, FirstPasses}
-use Rattle.emulate.specs.Writing.{Measured, fitsIn, Exact, Ended, Completes, AnswersFrom}
-use Rattle.emulate.proofs.Arrival.{EndsWith, full-end, whole-end}
-use Rattle.emulate.proofs.Measures.{few-addresses, exact, too-long}
+use Rattle.hosting.specs.Setting.{Tabled}
+use Rattle.passes.specs.Passing.{fullOf, FirstPassed, FirstPassedIf, FirstPasses}
+use Rattle.passes.specs.Writing.{Measured, fitsIn, Exact, Ended, Completes}
+use Rattle.passes.proofs.Arrival.{tabled-kept, EndsWith, full-end, whole-end, kept-whole}
+use Rattle.passes.proofs.Measures.{few-addresses, exact, too-long}
+use Rattle.emulate.specs.Answers.{AnswersFrom}
 
 -- ---- what the first pass came to
 
-module _ (R : Ran) (record₀ record₁ w : List ℕ) (limit : ℕ) (stop : Stop) (a : Counts) (b : Bool) (told : b ≡ fullOf stop) (p : FirstPasses R record₀ (stopEnd limit stop) record₁ w a) where
+module _ (R : Ran) (record₀ w₀ record₁ w : List ℕ) (limit : ℕ) (stop : Stop) (a : Counts) (b : Bool) (told : b ≡ fullOf stop) (p : FirstPasses R record₀ w₀ (stopEnd limit stop) record₁ w a) where
   pub over-addresses : b ≡ true → addressLimit < length (R .memory)
   over-addresses t = subst (λ (e : Ending statements.Stop). FirstPassedIf R record₀ e record₁ w a) (full-end limit stop (sym told ∙ t)) (p .comes)
 
@@ -43,6 +46,10 @@ module _ (R : Ran) (record₀ record₁ w : List ℕ) (limit : ℕ) (stop : Stop
     pub first-ended : Ended R limit stop w a
     first-ended = record { holds = passed .holds; stop = ends .same ∙ ap ended (sym (passed .stop)) }
 
+    -- the second pass finds the tables that were made for the first
+    pub first-tabled : {routine world : List ℕ} {x : Indexed} → Tabled routine world w₀ x → Tabled routine world w x
+    first-tabled h = tabled-kept h (kept-whole ends (p .tables))
+
 -- ---- both buffers are cleared
 
 same-zeros : (s t : List ℕ) → length s ≡ length t → zeroed s ≡ zeroed t
@@ -54,21 +61,21 @@ module _ (routine world call record₀ workspace₀ record₁ workspace₁ recor
   cleared-as a =
       rw (c .0, c .1, c .2, c .3, same-zeros record₁ record₀ lr, same-zeros workspace₁ workspace₀ lw) a
 
-module _ (routine world call record₀ workspace₀ : List ℕ) (ok : refusal routine world call ≡ 0) (room : workspaceNeeded ≤ length workspace₀) (record₁ workspace₁ : List ℕ) (limit : ℕ) (stop : Stop) (a : Counts)
-    (b : Bool) (told : b ≡ fullOf stop) (p : FirstPasses (ran routine world call) record₀ (stopEnd limit stop) record₁ workspace₁ a) where
+module _ (routine world call record₀ workspace₀ : List ℕ) (ok : refusal routine world call ≡ 0) (room : workspaceNeeded ≤ length workspace₀) (w₀ record₁ workspace₁ : List ℕ) (limit : ℕ) (stop : Stop) (a : Counts)
+    (b : Bool) (told : b ≡ fullOf stop) (p : FirstPasses (ran routine world call) record₀ w₀ (stopEnd limit stop) record₁ workspace₁ a) where
   -- 21
   pub answers-21 : b ≡ true → (n k : ℕ) (record₂ workspace₂ : List ℕ) → length record₁ ≡ length record₀ → length workspace₁ ≡ length workspace₀
       → (n ≡ 21) × (k ≡ 0) × (record₂ ≡ zeroed record₁) × (workspace₂ ≡ zeroed workspace₁) → Answered routine world call record₀ workspace₀ n k record₂ workspace₂
   answers-21 t n k record₂ workspace₂ lr lw c =
       cleared-as routine world call record₀ workspace₀ record₁ workspace₁ record₂ workspace₂ n 21 k lr lw c
-      (cleared-by-addresses routine world call record₀ workspace₀ ok room (over-addresses (ran routine world call) record₀ record₁ workspace₁ limit stop a b told p t))
+      (cleared-by-addresses routine world call record₀ workspace₀ ok room (over-addresses (ran routine world call) record₀ w₀ record₁ workspace₁ limit stop a b told p t))
 
   -- what comes after the first pass
   pub answers-on : b ≡ false → (n k : ℕ) (record₂ workspace₂ : List ℕ) → length record₁ ≡ length record₀ → length workspace₁ ≡ length workspace₀
       → AnswersFrom routine world call record₁ workspace₁ n k record₂ workspace₂ → Answered routine world call record₀ workspace₀ n k record₂ workspace₂
   unfolding recordOf
   answers-on t n k record₂ workspace₂ lr lw f =
-      f .answered record₀ workspace₀ lr lw (first-written (ran routine world call) record₀ record₁ workspace₁ limit stop a b told p t)
+      f .answered record₀ workspace₀ lr lw (first-written (ran routine world call) record₀ w₀ record₁ workspace₁ limit stop a b told p t)
 
 -- ---- after the first pass
 

@@ -1,8 +1,2 @@
-pub mod Simulation
-pub mod Arrival
-pub mod Buffer
-pub mod Measures
-pub mod Streams
-pub mod Completing
 pub mod Answering
-pub mod Constancy
+pub mod Giving

@@ -1,3 +1,2 @@
-pub mod Passing
-pub mod Writing
-pub mod Evaluating
+pub mod Answers
+pub mod Giving

@@ -1,7 +1,5 @@
 // The two entries: a run of a lifted routine, written as a record, and the value of a constant expression of one.
-pub mod bodies;
 pub mod constants;
-pub mod passes;
 
 ghost use mathlib.Core.Path.{_≡_};
 ghost use Prim.Native.Nat.{_≤_};
@@ -10,9 +8,12 @@ ghost use Rattle.files.specs.Refusal.{refusal};
 ghost use Rattle.definition.specs.Run.{ran, workspaceNeeded};
 ghost use Rattle.definition.specs.Answered.{Answered, ConstantAnswered, zeroed};
 ghost use Rattle.files.specs.Call.{limitsOf};
-ghost use Rattle.emulate.specs.Writing.{Ended, Exact, Completes, AnswersFrom};
+ghost use Rattle.hosting.specs.Setting.{Tabled};
+ghost use Rattle.passes.specs.Writing.{Ended};
+ghost use Rattle.emulate.specs.Answers.{AnswersFrom};
+use hosting::Indexed;
 use hosting::Walked;
-use stream::Lengths;
+use passes::bodies;
 
 // 0 and the record's length, or a refusal's number and 0.
 #[repr(C)]
@@ -30,30 +31,6 @@ fn clear_both(buffer: &mut [u8], ws: &mut [u8], number: u32) -> Answer
     Answer { number, length: 0 }
 }
 
-// What is left to write after the first pass: the questions, by the second pass, then the other bodies and the pairs.
-fn put_rest(
-    routine: &[u8],
-    world: &[u8],
-    call: &[u8],
-    buffer: &mut [u8],
-    ws: &mut [u8],
-    r: Walked,
-    l: Lengths,
-)
-    requires { ⌜ refusal (now routine) (now world) (now call) ≡ 0 ⌝ }
-    requires { ⌜ workspaceNeeded ≤ length (now ws) ⌝ }
-    requires { ⌜ Ended (ran (now routine) (now world) (now call)) (limitsOf (now call) .steps) (r .stop) (now ws) (r .at) ⌝ }
-    requires { ⌜ Exact (ran (now routine) (now world) (now call)) l (length (now buffer)) ⌝ }
-    ensures { λ _. ⌜ Completes (ran (now (routine .entry)) (now (world .entry)) (now (call .entry))) (now (buffer .entry)) (now (buffer .exit)) ⌝ }
-{
-    let limits = passes::limits_of(call);
-    let q = bodies::STEPS + l.steps as usize + l.variables as usize + l.memory as usize;
-    let stop = r.stop;
-    let first = r.at;
-    let at = passes::second_pass(routine, world, call, buffer, ws, q, first);
-    bodies::put_bodies(buffer, ws, stop, limits.steps as u64, at, l);
-}
-
 // The run goes on after the first pass.
 fn run_on(
     routine: &[u8],
@@ -61,10 +38,12 @@ fn run_on(
     call: &[u8],
     buffer: &mut [u8],
     ws: &mut [u8],
+    index: Indexed,
     r: Walked,
 ) -> Answer
     requires { ⌜ refusal (now routine) (now world) (now call) ≡ 0 ⌝ }
     requires { ⌜ workspaceNeeded ≤ length (now ws) ⌝ }
+    requires { ⌜ Tabled (now routine) (now world) (now ws) index ⌝ }
     requires { ⌜ Ended (ran (now routine) (now world) (now call)) (limitsOf (now call) .steps) (r .stop) (now ws) (r .at) ⌝ }
     ensures { λ r. ⌜ AnswersFrom (now (routine .entry)) (now (world .entry)) (now (call .entry)) (now (buffer .entry)) (now (ws .entry)) (r .number) (r .length) (now (buffer .exit)) (now (ws .exit)) ⌝ }
 {
@@ -73,7 +52,7 @@ fn run_on(
     if !bodies::fits(l, buffer.len() as u64) {
         return clear_both(buffer, ws, 22);
     }
-    put_rest(routine, world, call, buffer, ws, r, l);
+    passes::put_rest(routine, world, call, buffer, ws, index, r, l);
     layout::clear(ws);
     Answer {
         number: 0,
@@ -81,7 +60,7 @@ fn run_on(
     }
 }
 
-// The run of files that are accepted, in a workspace that is long enough.
+// The run of files that are accepted, in a workspace that is long enough. The tables are made once: a walk keeps them.
 fn run_accepted(
     routine: &[u8],
     world: &[u8],
@@ -93,12 +72,13 @@ fn run_accepted(
     requires { ⌜ workspaceNeeded ≤ length (now ws) ⌝ }
     ensures { λ r. ⌜ Answered (now (routine .entry)) (now (world .entry)) (now (call .entry)) (now (buffer .entry)) (now (ws .entry)) (r .number) (r .length) (now (buffer .exit)) (now (ws .exit)) ⌝ }
 {
-    let r = passes::first_pass(routine, world, call, buffer, ws);
+    let index = setup::set_tables(routine, world, ws);
+    let r = passes::first_pass(routine, world, call, buffer, ws, index);
     let stop = r.stop;
     if passes::is_full(stop) {
         return clear_both(buffer, ws, 21);
     }
-    run_on(routine, world, call, buffer, ws, r)
+    run_on(routine, world, call, buffer, ws, index, r)
 }
 
 // A run: the record of what the routine does in this world when it is called so.
@@ -150,7 +130,7 @@ pub extern "C" fn constant_value(routine: &[u8], node: u32, workspace: &mut [u8]
     if workspace.len() < workspace::SIZE {
         return constants::no_constant(20);
     }
-    let outcome = constants::evaluate(routine, node as usize, workspace);
+    let outcome = passes::evaluation::evaluate(routine, node as usize, workspace);
     layout::clear(workspace);
     constants::constant_of(outcome)
 }

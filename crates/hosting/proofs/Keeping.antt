@@ -38,10 +38,8 @@ pub get-runs : {A : Type 0} {g : Given} (k : Scene → Option Val → Act A) (n 
 unfolding hosted codeHost held view _>>=_
 get-runs {A} {g} k n {v} {w} {o} {a} {e} {w′} {o′} {a′} p r = record {
   ready = r .ready;
-  ran = λ x h. let u = r .ran x h in record {
-    came = subst (λ (z : Option Val). Came (hosted (codeHost (x .world) (g .how .second)) (k x z) (held w o a)) e (held w′ o′ a′)) p (u .came);
-    meant = u .meant;
-  };
+  tables = r .tables;
+  came = λ x h. subst (λ (z : Option Val). Came (hosted (codeHost (x .world) (g .how .second)) (k x z) (held w o a)) e (held w′ o′ a′)) p (r .came x h);
 }
 
 -- one is set
@@ -49,8 +47,6 @@ pub set-runs : {A : Type 0} {g : Given} {n : ℕ} {v : Val} (u : A) {w w′ o : 
 unfolding hosted codeHost held
 set-runs u {w} {w′} {o} {a} c p = record {
   ready = kept-ready (c .tables) (c .fit (a .stored) (p .fit)) p;
-  ran = λ x h. record {
-    came = ap (λ (z : View). (gave u, record { view = z; out = o; tally = a .tally })) (sym (c .holds (a .stored)));
-    meant = kept-meant w w′ (c .tables) h;
-  };
+  tables = c .tables;
+  came = λ x h. ap (λ (z : View). (gave u, record { view = z; out = o; tally = a .tally })) (sym (c .holds (a .stored)));
 }

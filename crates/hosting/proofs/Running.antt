@@ -19,7 +19,7 @@ use Rattle.hosting.specs.declared.Counts.{Counts}
 use Rattle.hosting.specs.Scene.{Given, Scene, Ready, Meant}
 use Rattle.hosting.specs.Held.{Held, held, codeHost, asked, emitted, replyOf, nextOf}
 use Rattle.hosting.specs.Ending.{Ending, ended, short}
-use Rattle.hosting.specs.Runs.{Came, Ran, Runs}
+use Rattle.hosting.specs.Runs.{Came, Kept, Runs}
 
 -- ---- a bind
 
@@ -61,18 +61,21 @@ module _ {A : Type 0} (w : World) (second : Bool) where
 abbrev hostIn : Given → Scene → Host Held
 hostIn g x = codeHost (x .world) (g .how .second)
 
+-- what holds unless the code has no room left, from something else that does
+pub kept-on : {A : Type 0} {P Q : Type 0} (e : Ending A) → (P → Q) → Kept e P → Kept e Q
+kept-on (ended a) f p = f p
+kept-on (short (some y)) f p = f p
+kept-on (short none) f p = tt
+
 -- a value is given, or an evaluation ends short, and nothing is done. What is given may be told by the tables
 pub done-runs : {A : Type 0} {g : Given} (val : Scene → A) {v : A} {w o : List ℕ} {a : Counts} → ((x : Scene) → Meant g x (tables w) → val x ≡ v) → Ready g w a
     → Runs g (λ x. done (val x)) w o a (ended v) w o a
 unfolding hosted
-done-runs val {w = w} {o = o} {a = a} e p = record {
-  ready = p;
-  ran = λ x h. record { came = ap (λ y. (gave y, held w o a)) (e x h); meant = h };
-}
+done-runs val {w = w} {o = o} {a = a} e p = record { ready = p; tables = refl; came = λ x h. ap (λ y. (gave y, held w o a)) (e x h) }
 
 pub fail-runs : {A : Type 0} {g : Given} {y : Why} {w o : List ℕ} {a : Counts} → Ready g w a → Runs {A = A} g (λ x. fail y) w o a (short (some y)) w o a
 unfolding hosted
-fail-runs p = record { ready = p; ran = λ x h. record { came = refl; meant = h } }
+fail-runs p = record { ready = p; tables = refl; came = λ x h. refl }
 
 grows-then : {A B : Type 0} (h : World) (second : Bool) (f : A → Act B) (e : End A) (s : Held) → length (s .view .memory) ≤ length (thenOf (codeHost h second) f e s .1 .view .memory)
 grows-then h second f (gave a) s = grows h second (f a) s
@@ -83,47 +86,33 @@ module _ {A B : Type 0} {g : Given} {m : Scene → Act A} (f : Scene → A → A
       → Runs g m w₀ o₀ a₀ (ended v) w₁ o₁ a₁ → Runs g (λ x. f x v) w₁ o₁ a₁ e w o a → Runs g (λ x. m x >>= f x) w₀ o₀ a₀ e w o a
   goes {v} {e} {w₁} {o₁} {w} {o} {a₁} {a} p q = record {
     ready = q .ready;
-    ran = λ x h.
-        let r = p .ran x h in
-        let l = q .ran x (r .meant) in
-        record {
-          came = subst (λ (z : End B × Held). Came z e (held w o a))
-              (sym (hosted-bind (hostIn g x) (f x) (m x) (held w₀ o₀ a₀) ∙ ap (λ (z : End A × Held). thenOf (hostIn g x) (f x) (z .0) (z .1)) (r .came))) (l .came);
-          meant = l .meant;
-        };
+    tables = kept-on e (λ t. t ∙ p .tables) (q .tables);
+    came = λ x h. subst (λ (z : End B × Held). Came z e (held w o a))
+        (sym (hosted-bind (hostIn g x) (f x) (m x) (held w₀ o₀ a₀) ∙ ap (λ (z : End A × Held). thenOf (hostIn g x) (f x) (z .0) (z .1)) (p .came x h)))
+        (q .came x (subst (Meant g x) (sym (p .tables)) h));
   }
 
   pub halts : (y : Option Why) {w o : List ℕ} {a : Counts} → Runs g m w₀ o₀ a₀ (short y) w o a → Runs g (λ x. m x >>= f x) w₀ o₀ a₀ (short y) w o a
   halts (some y) p = record {
     ready = p .ready;
-    ran = λ x h.
-        let r = p .ran x h in
-        record {
-          came = hosted-bind (hostIn g x) (f x) (m x) (held w₀ o₀ a₀) ∙ ap (λ (z : End A × Held). thenOf (hostIn g x) (f x) (z .0) (z .1)) (r .came);
-          meant = r .meant;
-        };
+    tables = p .tables;
+    came = λ x h. hosted-bind (hostIn g x) (f x) (m x) (held w₀ o₀ a₀) ∙ ap (λ (z : End A × Held). thenOf (hostIn g x) (f x) (z .0) (z .1)) (p .came x h);
   }
   halts none p = record {
     ready = tt;
-    ran = λ x h.
+    tables = tt;
+    came = λ x h.
         let z = hosted (hostIn g x) (m x) (held w₀ o₀ a₀) in
-        record {
-          came = subst (λ (z : End B × Held). addressLimit < length (z .1 .view .memory)) (sym (hosted-bind (hostIn g x) (f x) (m x) (held w₀ o₀ a₀)))
-              (le-trans (p .ran x h .came) (grows-then (x .world) (g .how .second) (f x) (z .0) (z .1)));
-          meant = tt;
-        };
+        subst (λ (z : End B × Held). addressLimit < length (z .1 .view .memory)) (sym (hosted-bind (hostIn g x) (f x) (m x) (held w₀ o₀ a₀)))
+        (le-trans (p .came x h) (grows-then (x .world) (g .how .second) (f x) (z .0) (z .1)));
   }
 
 pub assoc : {A B C : Type 0} {g : Given} (m : Scene → Act A) (f : Scene → A → Act B) (k : Scene → B → Act C) {w₀ o₀ : List ℕ} {a₀ : Counts} {e : Ending C} {w o : List ℕ} {a : Counts}
     → Runs g (λ x. m x >>= λ v. f x v >>= k x) w₀ o₀ a₀ e w o a → Runs g (λ x. (m x >>= f x) >>= k x) w₀ o₀ a₀ e w o a
 assoc {C = C} {g = g} m f k {w₀} {o₀} {a₀} {e} {w} {o} {a} p = record {
   ready = p .ready;
-  ran = λ x h.
-      let r = p .ran x h in
-      record {
-        came = subst (λ (z : End C × Held). Came z e (held w o a)) (sym (hosted-assoc (hostIn g x) (f x) (k x) (m x) (held w₀ o₀ a₀))) (r .came);
-        meant = r .meant;
-      };
+  tables = p .tables;
+  came = λ x h. subst (λ (z : End C × Held). Came z e (held w o a)) (sym (hosted-assoc (hostIn g x) (f x) (k x) (m x) (held w₀ o₀ a₀))) (p .came x h);
 }
 
 -- the same by an equation of acts, which the tables may show
@@ -131,7 +120,8 @@ pub acts : {A : Type 0} {g : Given} {m n : Scene → Act A} {w₀ o₀ : List �
     → ((x : Scene) → Meant g x (tables w₀) → n x ≡ m x) → Runs g m w₀ o₀ a₀ e w o a → Runs g n w₀ o₀ a₀ e w o a
 acts {A} {g} {m} {n} {w₀} {o₀} {a₀} {e} {w} {o} {a} p r = record {
   ready = r .ready;
-  ran = λ x h. subst (λ (z : Act A). Ran g x z (held w₀ o₀ a₀) e w o a) (sym (p x h)) (r .ran x h);
+  tables = r .tables;
+  came = λ x h. subst (λ (z : Act A). Came (hosted (hostIn g x) z (held w₀ o₀ a₀)) e (held w o a)) (sym (p x h)) (r .came x h);
 }
 
 -- ---- by what the code tells
@@ -150,4 +140,4 @@ told {A} {g} {m} {w₀} {o₀} {a₀} {e} {e′} {w} {o} {a} {a′} p q r =
 pub pending-runs : {A : Type 0} {g : Given} (f : Pending → A) {w o : List ℕ} {a : Counts} → Ready g w a
     → Runs g (λ x. pending (λ p. done (f p))) w o a (ended (f (pendingIn (notePart w)))) w o a
 unfolding hosted codeHost held view
-pending-runs f p = record { ready = p; ran = λ x h. record { came = refl; meant = h } }
+pending-runs f p = record { ready = p; tables = refl; came = λ x h. refl }

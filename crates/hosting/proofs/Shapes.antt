@@ -4,7 +4,7 @@ use mathlib.Core.List.{List}
 use Prim.Native.Nat.{ℕ, _+_, _*_, _≤_, _<_}
 use native.Mathlib.Omega.{arith}
 use lib.ListN.{length}
-use Rattle.files.specs.Nodes.{kindOf, refOf, widthOf, spanOf}
+use Rattle.files.specs.Nodes.{kindOf, refOf, widthOf}
 use Rattle.files.specs.Program.{Tree, Trees}
 use Rattle.files.specs.Spells.{Inside, next, size}
 use Rattle.hosting.specs.Stands.{Stands, stands, Shape, a-constant, a-var, a-register, a-text, a-function, an-always, a-never, a-decided, a-cast, a-deref, an-address, a-ternary, a-binary, an-assign, a-call, an-intrinsic, a-leave, a-give, a-struct, a-plain, KidsAt, no-kid, a-kid, FieldsAt, no-field, a-field, Fine, FineKids, FineArgs, FineFields}

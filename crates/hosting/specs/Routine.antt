@@ -4,7 +4,6 @@ use mathlib.Core.List.{List}
 use Prim.Native.Nat.{ℕ, _+_, _*_, _<_, _≤_}
 use lib.ListN.{length, getD}
 use lib.Dec.{eqb}
-use Rattle.value.specs.declared.Ty.{Ty}
 use Rattle.value.specs.declared.Val.{Val}
 use Rattle.value.specs.Value.{castTo}
 use Rattle.layout.specs.Number.{numberAt}

@@ -1,7 +1,7 @@
 -- What a run on the code's host comes to. Assumes nothing.
 use mathlib.Core.Path.{_≡_}
 use mathlib.Core.List.{List}
-use mathlib.Core.Option.{Option, none, some}
+use mathlib.Core.Option.{none, some}
 use Prim.Native.Nat.{ℕ, _<_}
 use lib.ListN.{length}
 use Rattle.definition.specs.Act.{Act, End, gave, stopped}
@@ -25,15 +25,8 @@ Kept (ended a) P = P
 Kept (short (some y)) P = P
 Kept (short none) P = Unit
 
-pub record Ran {A : Type 0} (g : Given) (x : Scene) (m : Act A) (s : Held) (e : Ending A) (w o : List ℕ) (a : Counts) : Type 0 where
-  pub came : Came (hosted (codeHost (x .world) (g .how .second)) m s) e (held w o a)
-  pub meant : Kept e (Meant g x (tables w))
-
--- from the bytes w₀ o₀ and the counts a₀, what m does ends so, with the bytes w o and the counts a, whatever scene the tables tell
+-- from the bytes w₀ o₀ and the counts a₀, what m does ends so, with the bytes w o and the counts a, whatever scene the tables tell; they stay
 pub record Runs {A : Type 0} (g : Given) (m : Scene → Act A) (w₀ o₀ : List ℕ) (a₀ : Counts) (e : Ending A) (w o : List ℕ) (a : Counts) : Type 0 where
   pub ready : Kept e (Ready g w a)
-  pub ran : (x : Scene) → Meant g x (tables w₀) → Ran g x (m x) (held w₀ o₀ a₀) e w o a
-
--- the same done with the workspace alone, whatever else is given
-pub record Works {A : Type 0} (m : Act A) (w₀ : List ℕ) (a₀ : Counts) (e : Ending A) (w : List ℕ) (a : Counts) : Type 0 where
-  pub runs : (g : Given) (o : List ℕ) → Ready g w₀ a₀ → Runs g (λ x. m) w₀ o a₀ e w o a
+  pub came : (x : Scene) → Meant g x (tables w₀) → Came (hosted (codeHost (x .world) (g .how .second)) (m x) (held w₀ o₀ a₀)) e (held w o a)
+  pub tables : Kept e (tables w ≡ tables w₀)

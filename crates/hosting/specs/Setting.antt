@@ -10,7 +10,7 @@ use Rattle.value.specs.Value.{type, knownVal}
 use Rattle.memory.specs.Overlay.{Overlay}
 use Rattle.value.specs.declared.Val.{Val}
 use Rattle.files.specs.FileTable.{body}
-use Rattle.files.specs.Program.{programOf, treeAt}
+use Rattle.files.specs.Program.{programOf}
 use Rattle.files.specs.Call.{limitsOf}
 use Rattle.definition.specs.World.{worldOf}
 use Rattle.definition.specs.Walk.{envOf, variablesAtStart, variablesAtEnd}

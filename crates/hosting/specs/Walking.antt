@@ -12,7 +12,7 @@ use Rattle.hosting.specs.declared.Facts.{Facts}
 use Rattle.hosting.specs.declared.Stop.{Stop}
 use Rattle.hosting.specs.declared.Stop.the-variants.{ReturnedNothing, Returned, Steps, Unknown, NoBlock, NoBlocks, NoReturn, Halted}
 use Rattle.hosting.specs.declared.Walked.{Walked}
-use Rattle.hosting.specs.Scene.{Given, Scene}
+use Rattle.hosting.specs.Scene.{Given}
 use Rattle.hosting.specs.Ending.{Ending, ended, short, shortOf}
 use Rattle.hosting.specs.Runs.{Runs}
 use Rattle.hosting.specs.Routine.{Told}

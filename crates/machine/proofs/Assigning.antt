@@ -1,104 +1,68 @@
--- What executing a statement is, and above all an Assign, from what the code did for it. Assumes nothing.
+-- What executing an Assign is, from what the code did for it. Assumes nothing.
 use mathlib.Core.Path.{_≡_, refl, sym, ap, _∙_, subst}
-use mathlib.Core.Bool.{Bool, true, false, _||_}
+use mathlib.Core.Bool.{Bool, true, false, not}
 use mathlib.Core.List.{List}
 use Prim.Native.Nat.{ℕ, _+_}
 use lib.Dec.{eqb}
 use borrow.Author.Tests.{eq-eqb, ne-eqb}
 use Rattle.value.specs.declared.Val.{Val}
-use Rattle.files.specs.Nodes.{kindOf, valueOf}
-use Rattle.files.specs.Program.{Tree, tree, Trees, nodeAt, Var, Deref, Assign, Call, Intrinsic, StructInit}
+use Rattle.files.specs.Nodes.{kindOf}
+use Rattle.files.specs.Program.{Tree, tree, Trees, nodeAt, Var, Deref, Assign, StructInit}
 use Rattle.files.specs.Spells.{next}
-use Rattle.definition.specs.Act.{Act, done, fail, pending, storeTo, noNote, _>>=_}
+use Rattle.definition.specs.Act.{Act, done, fail, storeTo, _>>=_}
 use Rattle.definition.specs.Term.{Term, node, is, eval, kid, kids}
-use Rattle.definition.specs.Evaluate.{Env, Did, did, unknownNote, look, looks, evalAs, execute, assign, assignVal, assignStruct, pointer}
+use Rattle.definition.specs.Evaluate.{Env, Did, look, looks, evalAs, execute, assign, assignVal, assignStruct, pointer}
 use Rattle.definition.specs.Evaluate as ev
-use Rattle.workspace.specs.Parts.{notePart}
-use Rattle.workspace.specs.Note.{pendingIn}
-use Rattle.hosting.specs.declared.Counts.{Counts}
-use Rattle.hosting.specs.declared.How.{How}
-use Rattle.hosting.specs.declared.Short.{Short}
-use Rattle.hosting.specs.declared.Outcome.the-variants.{Is, Ends}
-use Rattle.hosting.specs.declared.Evaluated.{Evaluated}
-use Rattle.machine.specs.declared.Pointed.{Pointed}
-use Rattle.hosting.specs.declared.Executed.{Executed}
-use Rattle.hosting.specs.Scene.{Given, given, Scene, Ready}
-use Rattle.hosting.specs.Stands.{Stands, stands, Shape, a-deref, an-assign}
-use Rattle.hosting.specs.Ending.{Ending, ended, short, shortOf, endOf, doneOf, valueEnd}
-use Rattle.hosting.specs.Runs.{Runs, Works}
-use Rattle.machine.specs.Post.{Evals, Executes, Points, AssignsVal, AssignsStruct}
-use Rattle.machine.specs.Steps.{FailsShort, Tells, noted, Values, storeThrough}
-use Rattle.machine.specs.Asking.{Writes}
-use Rattle.hosting.proofs.Running.{done-runs, fail-runs, goes, halts, acts, told, pending-runs}
-use Rattle.machine.proofs.Evaluating.{evals-as, stands-at, ended-on, short-on}
+use Rattle.workspace.specs.Parts.{registersPart}
+use Rattle.workspace.specs.Registers.{valueAt}
+use Rattle.hosting.specs.Scene.{given}
+use Rattle.hosting.specs.Stands.{Stands, stands, Shape, a-deref, an-assign, Fine}
+use Rattle.hosting.specs.Ending.{Ending, ended, short, shortOf}
+use Rattle.operations.specs.Registers.{shortIn, resultIn, toldIn, toldEnd}
+use Rattle.operations.specs.Going.{Goes, Works}
+use Rattle.machine.specs.Post.{Evaluates, Assigns, AssignsVal, AssignsStruct}
+use Rattle.operations.specs.declared.places.Target.{Target}
+use Rattle.operations.specs.Steps.{Gives, GivesShort, Targets, storeThrough}
+use Rattle.operations.specs.Asking.{Writes}
+use Rattle.hosting.proofs.Shapes.{deref-kid}
+use Rattle.operations.proofs.Going.{goes, halts, acts, told, by-true, beside-after, gives-goes, short-goes}
+use Rattle.machine.proofs.Evaluating.{evals-as, stands-at, gave-on, fell-on, ended-on, short-on, result-is}
 use Rattle.machine.proofs.Pointing.{pointed-on, unpointed-on}
 
--- what fails is told so
-pub failed : {g : Given} {m : Scene → Act Did} {w₀ o₀ : List ℕ} {a₀ : Counts} {w o : List ℕ} {a : Counts} {s : Short} {q : Executed} → FailsShort a s q
-    → Runs g m w₀ o₀ a₀ (short (shortOf s)) w o a → Runs g m w₀ o₀ a₀ (doneOf (q .outcome)) w o (q .at)
-failed e r = told (ap doneOf (e .why)) (e .at) r
-
--- ---- executing
-
-execute-assign : (E : Env) (t : Term) → is Assign t ≡ true → execute E t ≡ assign E (kid 0 (kids t)) (kid 1 (kids t))
+pub execute-assign : (E : Env) (t : Term) → is Assign t ≡ true → execute E t ≡ assign E (kid 0 (kids t)) (kid 1 (kids t))
 unfolding execute
 execute-assign E t e = rw (e, execute)
 
-abbrev notedAct : Bool → Val → Act Did
-notedAct true v = pending (λ p. done (did (unknownNote v p)))
-notedAct false v = done (did noNote)
+-- ---- an Assign evaluated: what it told is its value
 
-execute-other : (E : Env) (t : Term) → is Assign t ≡ false → execute E t ≡ (eval t >>= λ v. notedAct (is Call t || is Intrinsic t) v)
-unfolding execute
-execute-other E t e = rw (e, execute) (go (is Call t || is Intrinsic t))
-  where
-    go : (z : Bool) → _≡_ {A = Act Did} (eval t >>= λ v. elim z [ true ↦ pending (λ p. done (did (unknownNote v p))) | false ↦ done (did noNote) ]) (eval t >>= λ v. notedAct z v)
-    go true = refl
-    go false = refl
+module _ {b s r : List ℕ} {n : ℕ} {w₀ o₀ : List ℕ} {q : Bool} {w o : List ℕ} (a : Assigns b s r n w₀ o₀ q w o) where
+  -- it told something, or ended short
+  told-on : {t : Tree} → not q ≡ false → Stands b n t → Goes (given b s r) (λ x. execute (x .env) (look (x .env) t)) w₀ o₀ (ended (toldIn w)) w o
+  told-on {t} p h = gave-on q (toldIn w) (shortIn w) p (a .goes t h)
 
-noted-runs : {g : Given} {w o : List ℕ} {a : Counts} (k : ℕ) (v : Val) → Ready g w a
-    → Runs g (λ x. notedAct (eqb k 14 || eqb k 15) v) w o a (ended (did (noted k v (pendingIn (notePart w))))) w o a
-noted-runs {g} {w} {o} {a} k v p = go (eqb k 14 || eqb k 15)
-  where
-    go : (z : Bool) → Runs g (λ x. notedAct z v) w o a (ended (did (elim z [ true ↦ unknownNote v (pendingIn (notePart w)) | false ↦ noNote ]))) w o a
-    go true = pending-runs (λ y. did (unknownNote v y)) p
-    go false = done-runs (λ _. did noNote) (λ x h. refl) p
+  untold-on : {t : Tree} → not q ≡ true → Stands b n t → Goes (given b s r) (λ x. execute (x .env) (look (x .env) t)) w₀ o₀ (short (shortOf (shortIn w))) w o
+  untold-on {t} p h = fell-on q (toldIn w) (shortIn w) p (a .goes t h)
 
-module _ {g : Given} {n : ℕ} {w₀ o₀ : List ℕ} {a₀ : Counts} {q : Evaluated} {w o : List ℕ} {k : ℕ} {r : Executed} (p : k ≡ kindOf (g .nodes) n) (ne : k ≡ 13 → ⊥) (ev : Evals g n w₀ o₀ a₀ q w o) where
-  pub other-executes : {v : Val} → q .outcome ≡ Is v → Tells (q .at) (noted k v (pendingIn (notePart w))) r → Executes g n w₀ o₀ a₀ r w o
-  unfolding look
-  other-executes {v} eo e = record { runs = λ t h. go t h }
-    where
-      go : (t : Tree) → Stands (g .nodes) n t → Runs g (λ x. execute (x .env) (look (x .env) t)) w₀ o₀ a₀ (doneOf (r .outcome)) w o (r .at)
-      go _ (stands {ts = ts} i h) = let u = ended-on ev eo (stands i h) in
-          acts (λ x _. execute-other (x .env) _ (ne-eqb _ _ (λ z. ne (p ∙ z))))
-          (goes _ u (told (e .ends ∙ ap (λ (j : ℕ). ended (did (noted j v (pendingIn (notePart w))))) p) (e .at) (noted-runs (kindOf (g .nodes) n) v (u .ready))))
+  pub assigned-tells : {v : Val} {p : Bool} {w′ : List ℕ} → not q ≡ false → Gives w v p w′ → Assigns b s r n w₀ o₀ p w′ o
+  assigned-tells {w′ = w′} e g = record { goes = λ t h. beside-after (g .beside) (told (by-true (shortIn w′) (g .yes) (g .told)) (told-on e h)) }
 
-  pub other-fails : {y : Short} → q .outcome ≡ Ends y → FailsShort (q .at) (record { reason = y .reason; number = y .number }) r → Executes g n w₀ o₀ a₀ r w o
-  unfolding look
-  other-fails {y} eo e = record { runs = λ t h. go t h }
-    where
-      go : (t : Tree) → Stands (g .nodes) n t → Runs g (λ x. execute (x .env) (look (x .env) t)) w₀ o₀ a₀ (doneOf (r .outcome)) w o (r .at)
-      go _ (stands {ts = ts} i h) = acts (λ x _. execute-other (x .env) _ (ne-eqb _ _ (λ z. ne (p ∙ z)))) (failed e (halts _ _ (short-on ev eo (stands i h))))
+  pub assigned-fails : not q ≡ true → Assigns b s r n w₀ o₀ false w o
+  assigned-fails e = record { goes = λ t h. untold-on e h }
 
--- ---- an Assign evaluated
+  valued : {z : Ending Val} {w′ : List ℕ} → kindOf b n ≡ 13
+      → ((t : Tree) → Stands b n t → Goes (given b s r) (λ x. execute (x .env) (look (x .env) t) >>= λ d. done (ev.valueOf (d .wrote))) w₀ o₀ z w′ o)
+      → (t : Tree) → Stands b n t → Goes (given b s r) (λ x. eval (look (x .env) t)) w₀ o₀ z w′ o
+  unfolding evalAs look
+  valued k f _ (stands {ts = ts} i h) = acts
+      (λ y x _. evals-as (x .env) b n 13 ts k
+      ∙ ap (λ (m : Act Did). m >>= λ d. done (ev.valueOf (d .wrote))) (sym (execute-assign (x .env) (look (x .env) (tree (nodeAt b n) ts)) (eq-eqb _ _ k))))
+      (f _ (stands i h))
 
-value-runs : {g : Given} {m : Scene → Act Did} {w₀ o₀ : List ℕ} {a₀ : Counts} {w o : List ℕ} {a : Counts} (e : Ending Did) → Runs g m w₀ o₀ a₀ e w o a
-    → Runs g (λ x. m x >>= λ d. done (ev.valueOf (d .wrote))) w₀ o₀ a₀ (valueEnd e) w o a
-value-runs (ended d) p = goes _ p (done-runs (λ _. ev.valueOf (d .wrote)) (λ x h. refl) (p .ready))
-value-runs (short y) p = halts _ y p
+  pub assigned-evals : {p : Bool} {w′ : List ℕ} → kindOf b n ≡ 13 → not q ≡ false → Gives w (ev.valueOf (toldIn w .wrote)) p w′ → Evaluates b s r n w₀ o₀ p w′ o
+  assigned-evals k e g = record { goes = valued k (λ t h. goes (λ x d. done (ev.valueOf (d .wrote))) (told-on e h) (gives-goes g)) }
 
-pub assigned-evals : {g : Given} {n : ℕ} {w₀ o₀ : List ℕ} {a₀ : Counts} {d : Executed} {r : Evaluated} {w o : List ℕ} → kindOf (g .nodes) n ≡ 13
-    → Executes g n w₀ o₀ a₀ d w o → Values d r → Evals g n w₀ o₀ a₀ r w o
-unfolding evalAs look
-assigned-evals {g} {n} {w₀} {o₀} {a₀} {d} {r} {w} {o} k ex e = record { runs = λ t h. go t h }
-  where
-    go : (t : Tree) → Stands (g .nodes) n t → Runs g (λ x. eval (look (x .env) t)) w₀ o₀ a₀ (endOf (r .outcome)) w o (r .at)
-    go _ (stands {ts = ts} i h) =
-        acts
-        (λ x _. evals-as (x .env) (g .nodes) n 13 ts k
-        ∙ ap (λ (m : Act Did). m >>= λ s. done (ev.valueOf (s .wrote))) (sym (execute-assign (x .env) (look (x .env) (tree (nodeAt (g .nodes) n) ts)) (eq-eqb _ _ k))))
-        (told (e .ends) (e .at) (value-runs (doneOf (d .outcome)) (ex .runs _ (stands i h))))
+  pub assigned-short : kindOf b n ≡ 13 → not q ≡ true → Evaluates b s r n w₀ o₀ false w o
+  assigned-short k e = record { goes = valued k (λ t h. halts (λ x d. done (ev.valueOf (d .wrote))) _ (untold-on e h)) }
 
 -- ---- an Assign executed
 
@@ -110,48 +74,51 @@ assign-struct : (E : Env) (l r : Term) → is StructInit r ≡ true → assign E
 unfolding assign
 assign-struct E l r e = rw (e, assign)
 
--- an Assign of what is no StructInit, and of one
-module _ {g : Given} {n m : ℕ} {w₀ o₀ : List ℕ} {a₀ : Counts} {w o : List ℕ} {k : ℕ} {r : Executed} (ka : kindOf (g .nodes) n ≡ 13) (em : m ≡ next (g .nodes) (n + 1)) (p : k ≡ kindOf (g .nodes) m) where
-  sides : ((t u : Tree) → Stands (g .nodes) (n + 1) t → Stands (g .nodes) m u
-      → Runs g (λ x. assign (x .env) (look (x .env) t) (look (x .env) u)) w₀ o₀ a₀ (doneOf (r .outcome)) w o (r .at)) → Executes g n w₀ o₀ a₀ r w o
+-- of what is no StructInit, and of one
+module _ {b s r : List ℕ} {n m : ℕ} {w₀ o₀ : List ℕ} {w o : List ℕ} {k : ℕ} {d : Bool} (ka : kindOf b n ≡ 13) (em : m ≡ next b (n + 1)) (p : k ≡ kindOf b m) where
+  sides : ((t u : Tree) → Stands b (n + 1) t → Stands b m u → Goes (given b s r) (λ x. assign (x .env) (look (x .env) t) (look (x .env) u)) w₀ o₀ (toldEnd d w) w o) → Assigns b s r n w₀ o₀ d w o
   unfolding look kid
-  sides f = record { runs = λ t h. go t h }
+  sides f = record { goes = λ t h. go t h }
     where
-      from : {ts : Trees} → Shape (g .nodes) 13 n ts → Runs g (λ x. assign (x .env) (kid 0 (looks (x .env) ts)) (kid 1 (looks (x .env) ts))) w₀ o₀ a₀ (doneOf (r .outcome)) w o (r .at)
+      from : {ts : Trees} → Shape b 13 n ts → Goes (given b s r) (λ x. assign (x .env) (kid 0 (looks (x .env) ts)) (kid 1 (looks (x .env) ts))) w₀ o₀ (toldEnd d w) w o
       from (an-assign {a = a} {c = c} h i e) = f a c h (stands-at em i)
 
-      go : (t : Tree) → Stands (g .nodes) n t → Runs g (λ x. execute (x .env) (look (x .env) t)) w₀ o₀ a₀ (doneOf (r .outcome)) w o (r .at)
-      go _ (stands {ts = ts} i h) = acts (λ x _. execute-assign (x .env) _ (eq-eqb _ _ ka)) (from (subst (λ (j : ℕ). Shape (g .nodes) j n ts) ka h))
+      go : (t : Tree) → Stands b n t → Goes (given b s r) (λ x. execute (x .env) (look (x .env) t)) w₀ o₀ (toldEnd d w) w o
+      go _ (stands {ts = ts} i h) = acts (λ y x _. execute-assign (x .env) _ (eq-eqb _ _ ka)) (from (subst (λ (j : ℕ). Shape b j n ts) ka h))
 
-  pub struct-executes : k ≡ 17 → AssignsStruct g (n + 1) m w₀ o₀ a₀ r w o → Executes g n w₀ o₀ a₀ r w o
+  pub struct-executes : k ≡ 17 → AssignsStruct b s r (n + 1) m w₀ o₀ d w o → Assigns b s r n w₀ o₀ d w o
   unfolding look
   struct-executes q e = sides (λ t u h i. go t u h i)
     where
-      go : (t u : Tree) → Stands (g .nodes) (n + 1) t → Stands (g .nodes) m u → Runs g (λ x. assign (x .env) (look (x .env) t) (look (x .env) u)) w₀ o₀ a₀ (doneOf (r .outcome)) w o (r .at)
-      go t _ h (stands {ts = us} i j) = acts (λ x _. assign-struct (x .env) _ _ (eq-eqb _ _ (sym p ∙ q))) (e .runs t _ h (stands i j))
+      go : (t u : Tree) → Stands b (n + 1) t → Stands b m u → Goes (given b s r) (λ x. assign (x .env) (look (x .env) t) (look (x .env) u)) w₀ o₀ (toldEnd d w) w o
+      go t _ h (stands {ts = us} i j) = acts (λ y x _. assign-struct (x .env) _ _ (eq-eqb _ _ (sym p ∙ q))) (e .goes t _ h (stands i j))
 
-  module _ {b : Evaluated} {w₁ o₁ : List ℕ} (ne : k ≡ 17 → ⊥) (ev : Evals g m w₀ o₀ a₀ b w₁ o₁) where
-    pub val-executes : {v : Val} → b .outcome ≡ Is v → AssignsVal g (n + 1) v w₁ o₁ (b .at) r w o → Executes g n w₀ o₀ a₀ r w o
-    unfolding look
-    val-executes eo e = sides (λ t u h i. go t u h i)
-      where
-        go : (t u : Tree) → Stands (g .nodes) (n + 1) t → Stands (g .nodes) m u → Runs g (λ x. assign (x .env) (look (x .env) t) (look (x .env) u)) w₀ o₀ a₀ (doneOf (r .outcome)) w o (r .at)
-        go t _ h (stands {ts = us} i j) = acts (λ x _. assign-val (x .env) _ _ (ne-eqb _ _ (λ z. ne (p ∙ z)))) (goes _ (ended-on ev eo (stands i j)) (e .runs t h))
-
-module _ {g : Given} {n m : ℕ} {w₀ o₀ : List ℕ} {a₀ : Counts} {w o : List ℕ} {k : ℕ} {b : Evaluated} {r : Executed} where
-  pub val-fails : {y : Short} → kindOf (g .nodes) n ≡ 13 → m ≡ next (g .nodes) (n + 1) → k ≡ kindOf (g .nodes) m → (k ≡ 17 → ⊥) → Evals g m w₀ o₀ a₀ b w o → b .outcome ≡ Ends y
-      → FailsShort (b .at) (record { reason = y .reason; number = y .number }) r → Executes g n w₀ o₀ a₀ r w o
+  -- the right side is evaluated first
+  right : (k ≡ 17 → ⊥) → ((t u : Tree) → Stands b (n + 1) t → Stands b m u → Goes (given b s r) (λ x. eval (look (x .env) u) >>= assignVal (x .env) (look (x .env) t)) w₀ o₀ (toldEnd d w) w o)
+      → Assigns b s r n w₀ o₀ d w o
   unfolding look
-  val-fails ka em p ne ev eo e = sides ka em p (λ t u h i. go t u h i)
+  right ne f = sides (λ t u h i. go t u h i)
     where
-      go : (t u : Tree) → Stands (g .nodes) (n + 1) t → Stands (g .nodes) m u → Runs g (λ x. assign (x .env) (look (x .env) t) (look (x .env) u)) w₀ o₀ a₀ (doneOf (r .outcome)) w o (r .at)
-      go t _ h (stands {ts = us} i j) = acts (λ x _. assign-val (x .env) _ _ (ne-eqb _ _ (λ z. ne (p ∙ z)))) (failed e (halts _ _ (short-on ev eo (stands i j))))
+      go : (t u : Tree) → Stands b (n + 1) t → Stands b m u → Goes (given b s r) (λ x. assign (x .env) (look (x .env) t) (look (x .env) u)) w₀ o₀ (toldEnd d w) w o
+      go t _ h (stands {ts = us} i j) = acts (λ y x _. assign-val (x .env) _ _ (ne-eqb _ _ (λ z. ne (p ∙ z)))) (f t _ h (stands i j))
+
+  pub val-executes : {q : Bool} {w₁ o₁ : List ℕ} → (k ≡ 17 → ⊥) → Evaluates b s r m w₀ o₀ q w₁ o₁ → not q ≡ false → AssignsVal b s r (n + 1) (resultIn w₁) w₁ o₁ d w o → Assigns b s r n w₀ o₀ d w o
+  val-executes ne ev e a = right ne (λ t u h i. goes (λ x. assignVal (x .env) (look (x .env) t)) (ended-on ev e i) (a .goes t h))
+
+pub val-fails : {b s r : List ℕ} {n m : ℕ} {w₀ o₀ : List ℕ} {w o : List ℕ} {k : ℕ} {q : Bool} → kindOf b n ≡ 13 → m ≡ next b (n + 1) → k ≡ kindOf b m → (k ≡ 17 → ⊥)
+    → Evaluates b s r m w₀ o₀ q w o → not q ≡ true → Assigns b s r n w₀ o₀ false w o
+val-fails ka em p ne ev e = right ka em p ne (λ t u h i. halts (λ x. assignVal (x .env) (look (x .env) t)) _ (short-on ev e i))
 
 -- ---- a value to a place
 
-pub write-assigns : {nodes symbols regions : List ℕ} {how : How} {l : ℕ} {v : Val} {w₀ o₀ : List ℕ} {a₀ : Counts} {r : Executed} {w o : List ℕ} → Ready (given nodes symbols regions how) w₀ a₀
-    → Writes nodes symbols how l v w₀ o₀ a₀ r w o → AssignsVal (given nodes symbols regions how) l v w₀ o₀ a₀ r w o
-write-assigns {regions = regions} ready e = e .runs regions ready
+-- the value that was read from the registers
+assigns-read : {b s r : List ℕ} {l : ℕ} {v : Val} {w₀ o₀ : List ℕ} {d : Bool} {w o : List ℕ} → v ≡ valueAt (registersPart w₀) 0 → AssignsVal b s r l v w₀ o₀ d w o
+    → AssignsVal b s r l (resultIn w₀) w₀ o₀ d w o
+assigns-read {b} {s} {r} {l} {v} {w₀} {o₀} {d} {w} {o} q e = subst (λ (z : Val). AssignsVal b s r l z w₀ o₀ d w o) (sym (result-is w₀ q)) e
+
+pub write-assigns : {b s r : List ℕ} {l : ℕ} {v : Val} {w₀ o₀ : List ℕ} {d : Bool} {w o : List ℕ} → v ≡ valueAt (registersPart w₀) 0 → Writes b s l v w₀ o₀ d w o
+    → AssignsVal b s r l (resultIn w₀) w₀ o₀ d w o
+write-assigns {r = r} q e = assigns-read q (record { goes = e .goes r })
 
 abbrev derefVal : Env → Term → Val → Act Did
 derefVal E t v = pointer E t >>= λ p. storeThrough (node t .place) (p .0) (p .1) v
@@ -171,31 +138,36 @@ pub place-of : (E : Env) {b : List ℕ} {n : ℕ} {t : Tree} → Stands b n t �
 unfolding look
 place-of E (stands i h) = refl
 
+pub odd-assigns : {b s r : List ℕ} {l : ℕ} {v : Val} {w₀ o₀ : List ℕ} {k : ℕ} {d : Bool} {w : List ℕ} → k ≡ kindOf b l → (k ≡ 1 → ⊥) → (k ≡ 9 → ⊥) → GivesShort w₀ (record { reason = 8; number = l }) d w
+    → AssignsVal b s r l v w₀ o₀ d w o₀
+unfolding look
+odd-assigns {b} {s} {r} {l} {v} {w₀} {o₀} {k} {d} {w} p n1 n9 e = record { goes = λ t h. go t h }
+  where
+    go : (t : Tree) → Stands b l t → Goes (given b s r) (λ x. assignVal (x .env) (look (x .env) t) v) w₀ o₀ (toldEnd d w) w o₀
+    go _ (stands {ts = ts} i h) = acts (λ y x _. val-odd (x .env) _ v (ne-eqb _ _ (λ z. n1 (p ∙ z))) (ne-eqb _ _ (λ z. n9 (p ∙ z)))) (short-goes (toldIn w) e refl)
+
 -- through a Deref
-module _ {g : Given} {l : ℕ} (v : Val) {w₀ o₀ : List ℕ} {a₀ : Counts} {e : Ending Did} {w o : List ℕ} {a : Counts} where
-  through : {t : Tree} → kindOf (g .nodes) l ≡ 9 → Stands (g .nodes) l t
-      → ((u : Tree) → Stands (g .nodes) (l + 1) u → Runs g (λ x. pointer (x .env) (look (x .env) u) >>= λ p. storeThrough (l + 1) (p .0) (p .1) v) w₀ o₀ a₀ e w o a)
-      → Runs g (λ x. assignVal (x .env) (look (x .env) t) v) w₀ o₀ a₀ e w o a
-  unfolding look kid
-  through k (stands {ts = ts} i h) f = acts (λ x _. val-deref (x .env) _ v (not-var _ k) (eq-eqb _ _ k)) (from (subst (λ (j : ℕ). Shape (g .nodes) j l ts) k h))
-    where
-      placed : (u : Tree) → Stands (g .nodes) (l + 1) u → Runs g (λ x. derefVal (x .env) (look (x .env) u) v) w₀ o₀ a₀ e w o a
-      placed u q = acts (λ x _. ap (λ (j : ℕ). pointer (x .env) (look (x .env) u) >>= λ p. storeThrough j (p .0) (p .1) v) (place-of (x .env) q)) (f u q)
+through : {b s r : List ℕ} {l : ℕ} (v : Val) {w₀ o₀ : List ℕ} {e : Ending Did} {w o : List ℕ} {t : Tree} → kindOf b l ≡ 9 → Stands b l t
+    → ((u : Tree) → Stands b (l + 1) u → Goes (given b s r) (λ x. pointer (x .env) (look (x .env) u) >>= λ p. storeThrough (l + 1) (p .0) (p .1) v) w₀ o₀ e w o)
+    → Goes (given b s r) (λ x. assignVal (x .env) (look (x .env) t) v) w₀ o₀ e w o
+unfolding look kid
+through {b} {s} {r} {l} v {w₀} {o₀} {e} {w} {o} k (stands {ts = ts} i h) f = acts (λ y x _. val-deref (x .env) _ v (not-var _ k) (eq-eqb _ _ k)) (from (subst (λ (j : ℕ). Shape b j l ts) k h))
+  where
+    placed : (u : Tree) → Stands b (l + 1) u → Goes (given b s r) (λ x. derefVal (x .env) (look (x .env) u) v) w₀ o₀ e w o
+    placed u q = acts (λ y x _. ap (λ (j : ℕ). pointer (x .env) (look (x .env) u) >>= λ p. storeThrough j (p .0) (p .1) v) (place-of (x .env) q)) (f u q)
 
-      from : {us : Trees} → Shape (g .nodes) 9 l us → Runs g (λ x. derefVal (x .env) (kid 0 (looks (x .env) us)) v) w₀ o₀ a₀ e w o a
-      from (a-deref {a = u} q _) = placed u q
+    from : {us : Trees} → Shape b 9 l us → Goes (given b s r) (λ x. derefVal (x .env) (kid 0 (looks (x .env) us)) v) w₀ o₀ e w o
+    from (a-deref {a = u} q _) = placed u q
 
-module _ {g : Given} {l : ℕ} {v : Val} {w₀ o₀ : List ℕ} {a₀ : Counts} {k : ℕ} {r : Executed} (p : k ≡ kindOf (g .nodes) l) where
-  pub odd-assigns : (k ≡ 1 → ⊥) → (k ≡ 9 → ⊥) → Ready g w₀ a₀ → FailsShort a₀ (record { reason = 8; number = l }) r → AssignsVal g l v w₀ o₀ a₀ r w₀ o₀
-  unfolding look
-  odd-assigns n1 n9 ready e = record { runs = λ t h. go t h }
-    where
-      go : (t : Tree) → Stands (g .nodes) l t → Runs g (λ x. assignVal (x .env) (look (x .env) t) v) w₀ o₀ a₀ (doneOf (r .outcome)) w₀ o₀ (r .at)
-      go _ (stands {ts = ts} i h) = acts (λ x _. val-odd (x .env) _ v (ne-eqb _ _ (λ z. n1 (p ∙ z))) (ne-eqb _ _ (λ z. n9 (p ∙ z)))) (failed e (fail-runs ready))
+module _ {b s r : List ℕ} {l : ℕ} {v : Val} {w₀ o₀ : List ℕ} {k : ℕ} {p : Target} {q : Bool} {w₁ o₁ : List ℕ}
+    (ek : k ≡ kindOf b l) (k9 : k ≡ 9) (f : Fine b l) (ev : v ≡ valueAt (registersPart w₀) 0) (tg : Targets b w₀ (l + 1) p) (et : Evaluates b s r (p .node) w₀ o₀ q w₁ o₁) where
+  pub store-assigns : (d : Bool) {w : List ℕ} → not q ≡ false → Works (storeThrough (l + 1) (resultIn w₁) (p .ty) v) w₁ (toldEnd d w) w → AssignsVal b s r l (resultIn w₀) w₀ o₀ d w o₁
+  store-assigns d e st = assigns-read ev (record {
+    goes = λ t h. through v (sym ek ∙ k9) h
+        (λ u i. goes (λ x y. storeThrough (l + 1) (y .0) (y .1) v) (pointed-on (deref-kid (sym ek ∙ k9) f) tg et e i) (st .goes (given b s r) o₁));
+  })
 
-  module _ {q : Pointed} {w₁ o₁ : List ℕ} (k9 : k ≡ 9) (ep : Points g (l + 1) w₀ o₀ a₀ q w₁ o₁) where
-    pub store-assigns : {u : Val} {w : List ℕ} → q .outcome ≡ Is u → Works (storeThrough (l + 1) u (q .ty) v) w₁ (q .at) (doneOf (r .outcome)) w (r .at) → AssignsVal g l v w₀ o₀ a₀ r w o₁
-    store-assigns eo e = record { runs = λ t h. through v (sym p ∙ k9) h (λ u i. let z = pointed-on ep eo i in goes _ z (e .runs g o₁ (z .ready))) }
-
-    pub store-fails : {y : Short} → q .outcome ≡ Ends y → FailsShort (q .at) (record { reason = y .reason; number = y .number }) r → AssignsVal g l v w₀ o₀ a₀ r w₁ o₁
-    store-fails eo e = record { runs = λ t h. through v (sym p ∙ k9) h (λ u i. failed e (halts _ _ (unpointed-on ep eo i))) }
+  pub store-fails : not q ≡ true → AssignsVal b s r l (resultIn w₀) w₀ o₀ false w₁ o₁
+  store-fails e = assigns-read ev (record {
+    goes = λ t h. through v (sym ek ∙ k9) h (λ u i. halts (λ x y. storeThrough (l + 1) (y .0) (y .1) v) _ (unpointed-on (deref-kid (sym ek ∙ k9) f) tg et e i));
+  })

@@ -1,5 +1,6 @@
 -- What evaluating a Call is, from what the code did for it: its arguments, whose values are put in bytes, and then the call. Assumes nothing.
 use mathlib.Core.Path.{_≡_, refl, sym, ap, ap₂, _∙_, subst}
+use mathlib.Core.Bool.{Bool, true, false}
 use mathlib.Core.List.{List, [], _∷_, _++_}
 use Prim.Native.Nat.{ℕ, zero, suc, _+_, _*_, _≤_}
 use native.Mathlib.Omega.{arith}
@@ -15,24 +16,19 @@ use Rattle.definition.specs.Term.{eval, evals, kid, rest}
 use Rattle.definition.specs.Evaluate.{look, looks, evalAs, call}
 use Rattle.workspace.specs.Parts.{part}
 use Rattle.workspace.specs.Values.{valBytes}
-use Rattle.workspace.specs.View.{Fit}
 use Rattle.workspace.proofs.ValueLaws.{length-valBytes}
-use Rattle.hosting.specs.declared.Counts.{Counts}
 use Rattle.hosting.specs.declared.How.{How}
 use Rattle.hosting.specs.declared.Short.{Short}
-use Rattle.hosting.specs.declared.Outcome.{Outcome}
-use Rattle.hosting.specs.declared.Outcome.the-variants.{Is, Ends}
-use Rattle.hosting.specs.declared.Evaluated.{Evaluated}
 use Rattle.machine.specs.declared.Filled.{Filled}
-use Rattle.hosting.specs.Scene.{Given, given, Scene, Ready}
+use Rattle.hosting.specs.Scene.{Given, given, Scene}
 use Rattle.hosting.specs.Stands.{Stands, stands, Shape, a-call, KidsAt, no-kid, a-kid, FineArgs}
-use Rattle.hosting.specs.Ending.{ended, short, shortOf, endOf, filledEnd}
-use Rattle.hosting.specs.Runs.{Runs}
-use Rattle.machine.specs.Post.{Evals, EvalsArgs, ValuesIn}
-use Rattle.machine.specs.Steps.{GivesShort, FilledWith, Unfilled}
-use Rattle.machine.specs.Taking.{PutsVal, Calls, afterArgs}
-use Rattle.hosting.proofs.Running.{done-runs, goes, halts, acts, read, told}
-use Rattle.machine.proofs.Evaluating.{evals-as, ended-on, short-on}
+use Rattle.hosting.specs.Ending.{ended, short, shortOf}
+use Rattle.operations.specs.Registers.{shortIn, resultIn, endBy, endIn}
+use Rattle.operations.specs.Going.{Goes, ReadyIn}
+use Rattle.machine.specs.Post.{Evaluates, EvaluatesArgs}
+use Rattle.operations.specs.Taking.{ValuesIn, PutsVal, Calls, afterArgs}
+use Rattle.operations.proofs.Going.{done-goes, goes, halts, acts, told, ready-after, by-true, by-false}
+use Rattle.machine.proofs.Evaluating.{by, evals-as}
 
 -- ---- values in bytes
 
@@ -42,8 +38,8 @@ window (suc j) m zero s h = absurd (omega (arith, h))
 window (suc j) m (suc n) [] h = refl
 window (suc j) m (suc n) (x ∷ xs) h = window j m n xs (omega (arith, h))
 
-no-values : (s : List ℕ) (k n : ℕ) → n ≡ 0 → ValuesIn s k n []
-no-values s k n e = record { bytes = ap (λ (j : ℕ). part (k * 14) (j * 14) s) e; many = sym e; whole = tt }
+no-values : (s : List ℕ) (k : ℕ) → ValuesIn s k 0 []
+no-values s k = record { bytes = refl; many = refl; whole = tt }
 
 module _ (vals vals′ vals″ : List ℕ) (k : ℕ) {v : Val} (room : k * 14 + 14 ≤ length vals) (put : PutsVal vals k v vals′) (kept : take ((k + 1) * 14) vals″ ≡ take ((k + 1) * 14) vals′) where
   first-value : part (k * 14) 14 vals″ ≡ valBytes v
@@ -75,121 +71,109 @@ module _ (vals vals′ vals″ : List ℕ) (k : ℕ) {v : Val} (room : k * 14 + 
 
 -- ---- arguments
 
--- the same values and those from value k up to value j before them
-pub record From (k j : ℕ) (b r : Filled) : Type 0 where
-  pub at : r .at ≡ b .at
-  pub count : r .count + k ≡ b .count + j
-  pub outcome : r .outcome ≡ b .outcome
+abbrev pub filledBy : Bool → ℕ → Filled
+filledBy q c = record { ok = q; count = c }
 
-args-none : {g : Given} {n e : ℕ} {w o : List ℕ} {a : Counts} {ts : Trees} → KidsAt (g .nodes) n e ts → n ≡ e → Ready g w a → Runs g (λ x. evals (looks (x .env) ts)) w o a (ended []) w o a
+args-none : {g : How → Given} {b : List ℕ} {n e : ℕ} {w o : List ℕ} {ts : Trees} → KidsAt b n e ts → n ≡ e → Goes g (λ x. evals (looks (x .env) ts)) w o (ended []) w o
 unfolding look evals
-args-none no-kid e p = done-runs (λ _. []) (λ x h. refl) p
-args-none (a-kid lt h k) e p = absurd (omega (arith, lt, e))
+args-none no-kid e = done-goes (λ _. []) (λ h x m. refl)
+args-none (a-kid lt h k) e = absurd (omega (arith, lt, e))
 
-pub args-end : {g : Given} {n e k : ℕ} {w o : List ℕ} {a : Counts} {vals : List ℕ} {r : Filled} → n ≡ e → FineArgs (g .nodes) n e k → Ready g w a → FilledWith a 0 r → EvalsArgs g n e k w o a r vals vals w o
-args-end {k = k} {vals = vals} {r = r} e f p q = record {
+more-filled : {g : How → Given} {m : Scene → Act (List Val)} {w₀ o₀ w o : List ℕ} (q : Bool) (v : Val) (vs : List Val) (y : Short) → Goes g m w₀ o₀ (endBy q vs y) w o
+    → Goes g (λ x. m x >>= λ us. done (v ∷ us)) w₀ o₀ (endBy q (v ∷ vs) y) w o
+more-filled true v vs y p = goes _ p (done-goes (λ _. v ∷ vs) (λ h x m. refl))
+more-filled false v vs y p = halts _ _ p
+
+pub args-end : {b s r : List ℕ} {n e k : ℕ} {w o vals : List ℕ} → n ≡ e → FineArgs b n e k → EvaluatesArgs b s r n e k w o (filledBy true 0) vals vals w o
+args-end {k = k} {vals = vals} z f = record {
   values = [];
-  filled = no-values vals k (r .count) (q .count);
-  runs = λ ts h. told (ap (λ (z : Outcome). filledEnd z []) (q .outcome)) (q .at) (args-none h e p);
+  filled = λ _. no-values vals k;
+  goes = λ ts h. args-none h z;
   before = refl;
-  few = omega (arith, f .room, q .count);
+  few = omega (arith, f .room);
 }
 
-more-filled : {g : Given} {m : Scene → Act (List Val)} {w₀ o₀ : List ℕ} {a₀ : Counts} {w o : List ℕ} {a : Counts} (q : Outcome) (v : Val) (vs : List Val) → Runs g m w₀ o₀ a₀ (filledEnd q vs) w o a
-    → Runs g (λ x. m x >>= λ us. done (v ∷ us)) w₀ o₀ a₀ (filledEnd q (v ∷ vs)) w o a
-more-filled (Is z) v vs p = goes _ p (done-runs (λ _. v ∷ vs) (λ x h. refl) (p .ready))
-more-filled (Ends y) v vs p = halts _ _ p
-
-module _ {g : Given} {w₀ o₀ : List ℕ} {a₀ : Counts} {p : Evaluated} {w₁ o₁ : List ℕ} where
-  args-one : {n e : ℕ} {v : Val} {w o : List ℕ} {ts : Trees} (b : Filled) (vs : List Val) → KidsAt (g .nodes) n e ts → (n ≡ e → ⊥) → Evals g n w₀ o₀ a₀ p w₁ o₁ → p .outcome ≡ Is v
-      → ((us : Trees) → KidsAt (g .nodes) (next (g .nodes) n) e us → Runs g (λ x. evals (looks (x .env) us)) w₁ o₁ (p .at) (filledEnd (b .outcome) vs) w o (b .at))
-      → Runs g (λ x. evals (looks (x .env) ts)) w₀ o₀ a₀ (filledEnd (b .outcome) (v ∷ vs)) w o (b .at)
+module _ {b s r : List ℕ} {w₀ o₀ : List ℕ} {q : Bool} {w₁ o₁ : List ℕ} where
+  args-one : {n e : ℕ} {w o : List ℕ} {ts : Trees} (p : Bool) (vs : List Val) (y : Short) → KidsAt b n e ts → (n ≡ e → ⊥) → Evaluates b s r n w₀ o₀ q w₁ o₁ → q ≡ true
+      → ((us : Trees) → KidsAt b (next b n) e us → Goes (given b s r) (λ x. evals (looks (x .env) us)) w₁ o₁ (endBy p vs y) w o)
+      → Goes (given b s r) (λ x. evals (looks (x .env) ts)) w₀ o₀ (endBy p (resultIn w₁ ∷ vs) y) w o
   unfolding look evals
-  args-one b vs no-kid ne ev eo f = absurd (ne refl)
-  args-one {v = v} b vs (a-kid {ts = ts} lt h k) ne ev eo f = goes _ (ended-on ev eo h) (more-filled (b .outcome) v vs (f ts k))
+  args-one p vs y no-kid ne ev eq f = absurd (ne refl)
+  args-one p vs y (a-kid {ts = ts} lt h k) ne ev eq f = goes _ (told (sym (by-true (shortIn w₁) eq refl)) (ev .goes _ h)) (more-filled p (resultIn w₁) vs y (f ts k))
 
-  args-stop : {n e : ℕ} {y : Short} {ts : Trees} → KidsAt (g .nodes) n e ts → (n ≡ e → ⊥) → Evals g n w₀ o₀ a₀ p w₁ o₁ → p .outcome ≡ Ends y
-      → Runs g (λ x. evals (looks (x .env) ts)) w₀ o₀ a₀ (short (shortOf y)) w₁ o₁ (p .at)
+  args-stop : {n e : ℕ} {ts : Trees} → KidsAt b n e ts → (n ≡ e → ⊥) → Evaluates b s r n w₀ o₀ q w₁ o₁ → q ≡ false
+      → Goes (given b s r) (λ x. evals (looks (x .env) ts)) w₀ o₀ (short (shortOf (shortIn w₁))) w₁ o₁
   unfolding look evals
-  args-stop no-kid ne ev eo = absurd (ne refl)
-  args-stop (a-kid lt h k) ne ev eo = halts _ _ (short-on ev eo h)
+  args-stop no-kid ne ev eq = absurd (ne refl)
+  args-stop (a-kid lt h k) ne ev eq = halts _ _ (told (sym (by-false (resultIn w₁) eq refl)) (ev .goes _ h))
 
-  module _ {n e k : ℕ} (ne : n ≡ e → ⊥) (ev : Evals g n w₀ o₀ a₀ p w₁ o₁) where
-    pub args-short : {y : Short} {vals : List ℕ} {r : Filled} → FineArgs (g .nodes) n e k → p .outcome ≡ Ends y → Unfilled p r → EvalsArgs g n e k w₀ o₀ a₀ r vals vals w₁ o₁
-    args-short {vals = vals} {r = r} f eo q = record {
-      values = [];
-      filled = no-values vals k (r .count) (q .count);
-      runs = λ ts h. told (ap (λ (z : Outcome). filledEnd z []) (q .outcome ∙ eo)) (q .at) (args-stop h ne ev eo);
-      before = refl;
-      few = omega (arith, f .room, q .count);
-    }
-
-    pub args-evals : {v : Val} {m : ℕ} {vals vals′ vals″ : List ℕ} {b r : Filled} {w o : List ℕ} → k * 14 + 14 ≤ length vals → p .outcome ≡ Is v → m ≡ next (g .nodes) n → PutsVal vals k v vals′
-        → EvalsArgs g m e (k + 1) w₁ o₁ (p .at) b vals′ vals″ w o → From k (k + 1) b r → EvalsArgs g n e k w₀ o₀ a₀ r vals vals″ w o
-    args-evals {v} {m} {vals} {vals′} {vals″} {b} {r} {w} {o} room eo em put ea q =
-        let there : (us : Trees) → KidsAt (g .nodes) (next (g .nodes) n) e us → KidsAt (g .nodes) m e us = λ us h. subst (λ (j : ℕ). KidsAt (g .nodes) j e us) (sym em) h in
-        record {
-          values = v ∷ ea .values;
-          filled = subst (λ (j : ℕ). ValuesIn vals″ k j (v ∷ ea .values)) (omega (arith, q .count)) (more-values vals vals′ vals″ k room put (ea .before) (ea .filled));
-          runs = λ ts h. told (ap (λ (z : Outcome). filledEnd z (v ∷ ea .values)) (q .outcome)) (q .at) (args-one b (ea .values) h ne ev eo (λ us i. ea .runs us (there us i)));
-          before = kept-before vals vals′ vals″ k room put (ea .before);
-          few = omega (arith, ea .few, q .count);
-        }
-
--- the same values, told by an equal result; and of what ended short none
-module _ {g : Given} {n e k : ℕ} {w₀ o₀ : List ℕ} {a₀ : Counts} {b r : Filled} {vals vals′ w o : List ℕ} (ea : EvalsArgs g n e k w₀ o₀ a₀ b vals vals′ w o) where
-  pub args-told : From k k b r → EvalsArgs g n e k w₀ o₀ a₀ r vals vals′ w o
-  args-told q = record {
-    values = ea .values;
-    filled = subst (λ (j : ℕ). ValuesIn vals′ k j (ea .values)) (omega (arith, q .count)) (ea .filled);
-    runs = λ ts h. told (ap (λ (z : Outcome). filledEnd z (ea .values)) (q .outcome)) (q .at) (ea .runs ts h);
-    before = ea .before;
-    few = omega (arith, ea .few, q .count);
-  }
-
-  pub args-cut : {y : Short} → b .outcome ≡ Ends y → r .outcome ≡ b .outcome → r .at ≡ b .at → r .count ≡ 0 → EvalsArgs g n e k w₀ o₀ a₀ r vals vals′ w o
-  args-cut eo p q z = record {
+module _ {b s r : List ℕ} {n e : ℕ} {w₀ o₀ : List ℕ} {q : Bool} {w₁ o₁ : List ℕ} (ne : n ≡ e → ⊥) (ev : Evaluates b s r n w₀ o₀ q w₁ o₁) where
+  pub args-short : {k : ℕ} {vals : List ℕ} → FineArgs b n e k → q ≡ false → EvaluatesArgs b s r n e k w₀ o₀ (filledBy false 0) vals vals w₁ o₁
+  args-short {k} {vals} f eq = record {
     values = [];
-    filled = no-values vals′ k (r .count) z;
-    runs = λ ts h. told (ap (λ (x : Outcome). filledEnd x []) (p ∙ eo)) q (read (λ x. filledEnd x (ea .values)) eo (ea .runs ts h));
-    before = ea .before;
-    few = omega (arith, ea .few, z);
+    filled = λ _. no-values vals k;
+    goes = λ ts h. args-stop h ne ev eq;
+    before = refl;
+    few = omega (arith, f .room);
   }
 
-args-ready : {g : Given} {n e k : ℕ} {w₀ o₀ : List ℕ} {a₀ : Counts} {r : Filled} {v : Val} {vals vals′ w o : List ℕ} → EvalsArgs g n e k w₀ o₀ a₀ r vals vals′ w o → r .outcome ≡ Is v
-    → FineArgs (g .nodes) n e k → Ready g w (r .at)
-args-ready ea eo f = read (λ z. filledEnd z (ea .values)) eo (ea .runs (f .trees) (f .spells)) .ready
+  pub args-evals : {k m : ℕ} {vals vals′ vals″ : List ℕ} {p : Bool} {c : ℕ} {w o : List ℕ} → k * 14 + 14 ≤ length vals → q ≡ true → m ≡ next b n → PutsVal vals k (resultIn w₁) vals′
+      → EvaluatesArgs b s r m e (k + 1) w₁ o₁ (filledBy p c) vals′ vals″ w o → EvaluatesArgs b s r n e k w₀ o₀ (filledBy p (c + 1)) vals vals″ w o
+  args-evals {k} {m} {vals} {vals′} {vals″} {p} {c} {w} {o} room eq em put ea =
+      let there : (us : Trees) → KidsAt b (next b n) e us → KidsAt b m e us = λ us h. subst (λ (j : ℕ). KidsAt b j e us) (sym em) h in
+      record {
+        values = resultIn w₁ ∷ ea .values;
+        filled = λ z. more-values vals vals′ vals″ k room put (ea .before) (ea .filled z);
+        goes = λ ts h. args-one p (ea .values) (shortIn w) h ne ev eq (λ us i. ea .goes us (there us i));
+        before = kept-before vals vals′ vals″ k room put (ea .before);
+        few = omega (arith, ea .few);
+      }
 
-pub args-fit : {g : Given} {n e k : ℕ} {w₀ o₀ : List ℕ} {a₀ : Counts} {r : Filled} {v : Val} {vals vals′ w o : List ℕ} → EvalsArgs g n e k w₀ o₀ a₀ r vals vals′ w o → r .outcome ≡ Is v
-    → FineArgs (g .nodes) n e k → Fit w (r .at .stored)
-args-fit ea eo f = args-ready ea eo f .fit
+-- the same arguments, told by an equal count; and of what ended short none
+module _ {b s r : List ℕ} {n e k : ℕ} {w₀ o₀ vals vals′ w o : List ℕ} {c : ℕ} where
+  pub args-count : {p : Bool} {d : ℕ} → d ≡ c → EvaluatesArgs b s r n e k w₀ o₀ (filledBy p c) vals vals′ w o → EvaluatesArgs b s r n e k w₀ o₀ (filledBy p d) vals vals′ w o
+  args-count {p} z ea = subst (λ (j : ℕ). EvaluatesArgs b s r n e k w₀ o₀ (filledBy p j) vals vals′ w o) (sym z) ea
+
+  pub args-cut : EvaluatesArgs b s r n e k w₀ o₀ (filledBy false c) vals vals′ w o → EvaluatesArgs b s r n e k w₀ o₀ (filledBy false 0) vals vals′ w o
+  args-cut ea = record {
+    values = [];
+    filled = λ _. no-values vals′ k;
+    goes = ea .goes;
+    before = ea .before;
+    few = omega (arith, ea .few);
+  }
 
 -- ---- the call
 
-module _ {nodes symbols regions : List ℕ} {how : How} {n m e : ℕ} {w₀ o₀ : List ℕ} {a₀ : Counts} {q : Filled} {vals vals′ w₁ o₁ : List ℕ} {r : Evaluated} where
-  pub call-evals : {v : Val} {w o : List ℕ} → kindOf nodes n ≡ 14 → m ≡ next nodes (n + 1) → e ≡ next nodes n → EvalsArgs (given nodes symbols regions how) m e 0 w₀ o₀ a₀ q vals vals′ w₁ o₁ → q .outcome ≡ Is v
-      → Calls nodes how vals′ (q .count) n w₁ o₁ (q .at) r w o → Evals (given nodes symbols regions how) n w₀ o₀ a₀ r w o
+-- the arguments of the tree that stands there
+under : {b s r : List ℕ} (n : ℕ) {m e : ℕ} {w₀ o₀ : List ℕ} {q : Filled} {vals vals′ w₁ o₁ : List ℕ} {ts : Trees} → m ≡ next b (n + 1) → e ≡ next b n
+    → (ea : EvaluatesArgs b s r m e 0 w₀ o₀ q vals vals′ w₁ o₁) → KidsAt b (next b (n + 1)) (next b n) ts
+    → Goes (given b s r) (λ x. evals (looks (x .env) ts)) w₀ o₀ (endBy (q .ok) (ea .values) (shortIn w₁)) w₁ o₁
+under {b} n {m} {ts = ts} em ee ea h = ea .goes ts (subst (λ (j : ℕ). KidsAt b m j ts) (sym ee) (subst (λ (j : ℕ). KidsAt b j (next b n) ts) (sym em) h))
+
+-- the workspace is in order after arguments that have values
+pub args-ready : {b s r : List ℕ} {n e k : ℕ} {w₀ o₀ : List ℕ} {q : Filled} {vals vals′ w o : List ℕ} → EvaluatesArgs b s r n e k w₀ o₀ q vals vals′ w o → q .ok ≡ true
+    → FineArgs b n e k → ReadyIn (given b s r) w₀ → ReadyIn (given b s r) w
+args-ready {w = w} ea eq f p = ready-after (told (sym (by-true (shortIn w) eq refl)) (ea .goes (f .trees) (f .spells))) p
+
+module _ {b s r : List ℕ} {n m e : ℕ} {w₀ o₀ : List ℕ} {q : Filled} {vals vals′ w₁ o₁ : List ℕ} (k : kindOf b n ≡ 14) (em : m ≡ next b (n + 1)) (ee : e ≡ next b n)
+    (ea : EvaluatesArgs b s r m e 0 w₀ o₀ q vals vals′ w₁ o₁) where
+  pub call-evals : {p : Bool} {w o : List ℕ} → q .ok ≡ true → Calls b vals′ (q .count) n w₁ o₁ p w o → Evaluates b s r n w₀ o₀ p w o
   unfolding evalAs look kid call afterArgs
-  call-evals {w = w} {o = o} k em ee ea eo p = record { runs = λ t h. go t h }
+  call-evals {p} {w} {o} eq f = record { goes = λ t h. go t h }
     where
-      from : {ts : Trees} → Shape nodes 14 n ts → Stands nodes n (tree (nodeAt nodes n) ts)
-          → Runs (given nodes symbols regions how) (λ x. call (x .env) (kid 0 (looks (x .env) ts)) (rest (looks (x .env) ts))) w₀ o₀ a₀ (endOf (r .outcome)) w o (r .at)
+      from : {ts : Trees} → Shape b 14 n ts → Stands b n (tree (nodeAt b n) ts)
+          → Goes (given b s r) (λ x. call (x .env) (kid 0 (looks (x .env) ts)) (rest (looks (x .env) ts))) w₀ o₀ (endIn p w) w o
       from (a-call {ts = ts} h ks few) st =
-          let u = read (λ z. filledEnd z (ea .values)) eo (ea .runs ts (subst (λ (j : ℕ). KidsAt nodes m j ts) (sym ee) (subst (λ (j : ℕ). KidsAt nodes j (next nodes n) ts) (sym em) ks))) in
-          goes _ u (p .runs symbols regions (ea .values) (u .ready) (ea .filled) _ st)
+          goes _ (told (sym (by-true (shortIn w₁) eq refl)) (under n em ee ea ks)) (f .goes s r (ea .values) (ea .filled eq) _ st)
 
-      go : (t : Tree) → Stands nodes n t → Runs (given nodes symbols regions how) (λ x. eval (look (x .env) t)) w₀ o₀ a₀ (endOf (r .outcome)) w o (r .at)
-      go _ (stands {ts = ts} i h) = acts (λ x _. evals-as (x .env) nodes n 14 ts k) (from (subst (λ (j : ℕ). Shape nodes j n ts) k h) (stands i h))
+      go : (t : Tree) → Stands b n t → Goes (given b s r) (λ x. eval (look (x .env) t)) w₀ o₀ (endIn p w) w o
+      go _ (stands {ts = ts} i h) = acts (λ _ x _. evals-as (x .env) b n 14 ts k) (from (subst (λ (j : ℕ). Shape b j n ts) k h) (stands i h))
 
-  pub call-short : {y : Short} → kindOf nodes n ≡ 14 → m ≡ next nodes (n + 1) → e ≡ next nodes n → EvalsArgs (given nodes symbols regions how) m e 0 w₀ o₀ a₀ q vals vals′ w₁ o₁ → q .outcome ≡ Ends y
-      → GivesShort (q .at) (record { reason = y .reason; number = y .number }) r → Evals (given nodes symbols regions how) n w₀ o₀ a₀ r w₁ o₁
+  pub call-short : q .ok ≡ false → Evaluates b s r n w₀ o₀ false w₁ o₁
   unfolding evalAs look kid call
-  call-short k em ee ea eo p = record { runs = λ t h. go t h }
+  call-short eq = by 14 k (λ ts h. from h)
     where
-      from : {ts : Trees} → Shape nodes 14 n ts
-          → Runs (given nodes symbols regions how) (λ x. call (x .env) (kid 0 (looks (x .env) ts)) (rest (looks (x .env) ts))) w₀ o₀ a₀ (endOf (r .outcome)) w₁ o₁ (r .at)
-      from (a-call {ts = ts} h ks few) = told (ap endOf (p .why)) (p .at)
-          (halts _ _ (read (λ z. filledEnd z (ea .values)) eo (ea .runs ts (subst (λ (j : ℕ). KidsAt nodes m j ts) (sym ee) (subst (λ (j : ℕ). KidsAt nodes j (next nodes n) ts) (sym em) ks)))))
-
-      go : (t : Tree) → Stands nodes n t → Runs (given nodes symbols regions how) (λ x. eval (look (x .env) t)) w₀ o₀ a₀ (endOf (r .outcome)) w₁ o₁ (r .at)
-      go _ (stands {ts = ts} i h) = acts (λ x _. evals-as (x .env) nodes n 14 ts k) (from (subst (λ (j : ℕ). Shape nodes j n ts) k h))
+      from : {ts : Trees} → Shape b 14 n ts
+          → Goes (given b s r) (λ x. call (x .env) (kid 0 (looks (x .env) ts)) (rest (looks (x .env) ts))) w₀ o₀ (endIn false w₁) w₁ o₁
+      from (a-call {ts = ts} h ks few) = halts _ _ (told (sym (by-false (ea .values) eq refl)) (under n em ee ea ks))

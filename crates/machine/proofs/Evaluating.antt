@@ -1,10 +1,12 @@
 -- What evaluating each kind of node is, from what the code did for it: laws from what is known of the code's calls to what it ensures. Assumes nothing.
 use mathlib.Core.Path.{_≡_, refl, sym, ap, _∙_, subst}
-use mathlib.Core.Bool.{true, false}
+use mathlib.Core.Bool.{Bool, true, false, not}
 use mathlib.Core.List.{List, []}
 use Prim.Native.Nat.{ℕ, zero, suc, _+_, _*_}
 use native.Mathlib.Omega.{arith}
 use lib.ListN.{getD}
+use lib.Dec.{eqb}
+use borrow.Author.Tests.{eqb-false}
 use Rattle.value.specs.declared.Val.{Val}
 use Rattle.value.specs.declared.Answer.{Answer}
 use Rattle.value.specs.declared.Answer.the-variants.{Value, DivisionByZero}
@@ -17,71 +19,94 @@ use Rattle.files.specs.Spells.{next}
 use Rattle.definition.specs.Act.{Act, done, _>>=_, _>>_}
 use Rattle.definition.specs.Term.{eval, evals, kid, nothing}
 use Rattle.definition.specs.Evaluate.{Env, look, looks, evalAs, chosen, readVariable, answered}
-use Rattle.workspace.specs.Parts.{tables}
+use Rattle.index.specs.Regions.{RegionsIndexed}
+use Rattle.workspace.specs.Parts.{tables, regionsPart, registersPart}
+use Rattle.workspace.specs.Registers.{valueAt}
 use Rattle.workspace.specs.Types.{typeAt}
 use Rattle.workspace.specs.View.{Fit}
-use Rattle.hosting.specs.declared.Counts.{Counts}
-use Rattle.hosting.specs.declared.Short.{Short}
 use Rattle.hosting.specs.declared.How.{How}
-use Rattle.hosting.specs.declared.Outcome.the-variants.{Is, Ends}
-use Rattle.hosting.specs.declared.Evaluated.{Evaluated}
-use Rattle.hosting.specs.Scene.{Given, given, Scene, Ready}
+use Rattle.hosting.specs.declared.Short.{Short}
+use Rattle.hosting.specs.Scene.{Given, given, Scene}
 use Rattle.hosting.specs.Stands.{Stands, stands, Shape, a-cast, an-address, a-ternary, a-binary, an-intrinsic, a-leave, a-give, KidsAt, no-kid, a-kid, Fine}
-use Rattle.hosting.specs.Ending.{Ending, ended, short, shortOf, endOf, answerEnd}
-use Rattle.hosting.specs.Runs.{Runs}
-use Rattle.machine.specs.Post.{Evals, EvalsKids}
-use Rattle.machine.specs.Steps.{Gives, Answers}
-use Rattle.machine.specs.Asking.{Addresses}
-use Rattle.hosting.proofs.Running.{done-runs, fail-runs, goes, halts, assoc, acts, read, told}
+use Rattle.hosting.specs.Ending.{Ending, ended, short, shortOf, answerEnd}
+use Rattle.operations.specs.Registers.{countsIn, howIn, shortIn, resultIn, endBy, endIn}
+use Rattle.operations.specs.Going.{ReadyIn, Goes}
+use Rattle.operations.specs.Steps.{Gives, Answers}
+use Rattle.operations.specs.Asking.{Addresses}
+use Rattle.machine.specs.Post.{Evaluates, EvaluatesKids}
 use Rattle.hosting.proofs.Shapes.{last-kind}
+use Rattle.operations.proofs.Going.{done-goes, fail-goes, goes, halts, assoc, acts, told, ready-after, beside-after, by-true, by-false, gives-goes}
 
 -- ---- from a shape that a test has shown to whatever tree stands there
 
-abbrev pub actAs : Given → Scene → ℕ → ℕ → Trees → Act Val
-actAs g x k n ts = evalAs (x .env) (kindNumbered k) (nodeAt (g .nodes) n) (looks (x .env) ts)
+abbrev pub actAs : List ℕ → Scene → ℕ → ℕ → Trees → Act Val
+actAs b x k n ts = evalAs (x .env) (kindNumbered k) (nodeAt b n) (looks (x .env) ts)
 
 pub evals-as : (E : Env) (b : List ℕ) (n k : ℕ) (ts : Trees) → kindOf b n ≡ k → eval (look E (tree (nodeAt b n) ts)) ≡ evalAs E (kindNumbered k) (nodeAt b n) (looks E ts)
 unfolding look
 evals-as E b n k ts e = ap (λ (j : ℕ). evalAs E (kindNumbered j) (nodeAt b n) (looks E ts)) e
 
-by′ : {g : Given} {n : ℕ} {w₀ o₀ : List ℕ} {a₀ : Counts} {e : Ending Val} {w o : List ℕ} {a : Counts} {t : Tree} (k : ℕ) → kindOf (g .nodes) n ≡ k
-    → ((ts : Trees) → Shape (g .nodes) k n ts → Runs g (λ x. actAs g x k n ts) w₀ o₀ a₀ e w o a) → Stands (g .nodes) n t → Runs g (λ x. eval (look (x .env) t)) w₀ o₀ a₀ e w o a
-by′ {g} {n} k e f (stands {ts = ts} i h) =
-    acts (λ x _. evals-as (x .env) (g .nodes) n k ts e) (f ts (subst (λ (j : ℕ). Shape (g .nodes) j n ts) e h))
+by′ : {b s r : List ℕ} {n : ℕ} {w₀ o₀ : List ℕ} {e : Ending Val} {w o : List ℕ} {t : Tree} (k : ℕ) → kindOf b n ≡ k
+    → ((ts : Trees) → Shape b k n ts → Goes (given b s r) (λ x. actAs b x k n ts) w₀ o₀ e w o) → Stands b n t → Goes (given b s r) (λ x. eval (look (x .env) t)) w₀ o₀ e w o
+by′ {b} {n = n} k e f (stands {ts = ts} i h) =
+    acts (λ _ x _. evals-as (x .env) b n k ts e) (f ts (subst (λ (j : ℕ). Shape b j n ts) e h))
 
-pub by : {g : Given} {n : ℕ} {w₀ o₀ : List ℕ} {a₀ : Counts} {r : Evaluated} {w o : List ℕ} (k : ℕ) → kindOf (g .nodes) n ≡ k
-    → ((ts : Trees) → Shape (g .nodes) k n ts → Runs g (λ x. actAs g x k n ts) w₀ o₀ a₀ (endOf (r .outcome)) w o (r .at)) → Evals g n w₀ o₀ a₀ r w o
-by k e f = record { runs = λ t h. by′ k e f h }
+pub by : {b s r : List ℕ} {n : ℕ} {w₀ o₀ : List ℕ} {q : Bool} {w o : List ℕ} (k : ℕ) → kindOf b n ≡ k
+    → ((ts : Trees) → Shape b k n ts → Goes (given b s r) (λ x. actAs b x k n ts) w₀ o₀ (endIn q w) w o) → Evaluates b s r n w₀ o₀ q w o
+by k e f = record { goes = λ t h. by′ k e f h }
 
--- ---- what an evaluation came to
+-- ---- what an evaluation came to, by the test of what the function gave
 
--- a value was given, and nothing else done
-pub gives : {g : Given} {w o : List ℕ} {a : Counts} {v : Val} (r : Evaluated) → Ready g w a → Gives a v r → Runs g (λ x. done v) w o a (endOf (r .outcome)) w o (r .at)
-gives {v = v} r p e = told (ap endOf (e .value)) (e .at) (done-runs (λ _. v) (λ x h. refl) p)
+yes : (q : Bool) → not q ≡ false → q ≡ true
+yes true e = refl
+yes false e = sym e
 
-pub ended-on : {g : Given} {n : ℕ} {w₀ o₀ : List ℕ} {a₀ : Counts} {r : Evaluated} {v : Val} {w o : List ℕ} {t : Tree} → Evals g n w₀ o₀ a₀ r w o → r .outcome ≡ Is v → Stands (g .nodes) n t
-    → Runs g (λ x. eval (look (x .env) t)) w₀ o₀ a₀ (ended v) w o (r .at)
-ended-on {t = t} e p h = read endOf p (e .runs t h)
+no : (q : Bool) → not q ≡ true → q ≡ false
+no true e = sym e
+no false e = refl
 
-pub short-on : {g : Given} {n : ℕ} {w₀ o₀ : List ℕ} {a₀ : Counts} {r : Evaluated} {y : Short} {w o : List ℕ} {t : Tree} → Evals g n w₀ o₀ a₀ r w o → r .outcome ≡ Ends y → Stands (g .nodes) n t
-    → Runs g (λ x. eval (look (x .env) t)) w₀ o₀ a₀ (short (shortOf y)) w o (r .at)
-short-on {t = t} e p h = read endOf p (e .runs t h)
+-- of any function of the cycle
+module _ {A : Type 0} {g : How → Given} {m : Scene → Act A} {w₀ o₀ : List ℕ} (q : Bool) (a : A) (y : Short) {w o : List ℕ} where
+  pub gave-on : not q ≡ false → Goes g m w₀ o₀ (endBy q a y) w o → Goes g m w₀ o₀ (ended a) w o
+  gave-on e p = told (sym (by-true y (yes q e) refl)) p
 
--- what is ready after an evaluation that gave a value
-pub ready-on : {g : Given} {n : ℕ} {w₀ o₀ : List ℕ} {a₀ : Counts} {r : Evaluated} {v : Val} {w o : List ℕ} → Evals g n w₀ o₀ a₀ r w o → r .outcome ≡ Is v → Fine (g .nodes) n → Ready g w (r .at)
-ready-on e p f = ended-on e p (f .spells) .ready
+  pub fell-on : not q ≡ true → Goes g m w₀ o₀ (endBy q a y) w o → Goes g m w₀ o₀ (short (shortOf y)) w o
+  fell-on e p = told (sym (by-false a (no q e) refl)) p
 
-pub fit-on : {g : Given} {n : ℕ} {w₀ o₀ : List ℕ} {a₀ : Counts} {r : Evaluated} {v : Val} {w o : List ℕ} → Evals g n w₀ o₀ a₀ r w o → r .outcome ≡ Is v → Fine (g .nodes) n → Fit w (r .at .stored)
-fit-on e p f = ready-on e p f .fit
+-- the value that is read from the registers
+pub result-is : {v : Val} (w : List ℕ) → v ≡ valueAt (registersPart w) 0 → resultIn w ≡ v
+unfolding resultIn
+result-is w e = sym e
+
+module _ {b s r : List ℕ} {n : ℕ} {w₀ o₀ : List ℕ} {q : Bool} {w o : List ℕ} (ev : Evaluates b s r n w₀ o₀ q w o) where
+  pub ended-on : {t : Tree} → not q ≡ false → Stands b n t → Goes (given b s r) (λ x. eval (look (x .env) t)) w₀ o₀ (ended (resultIn w)) w o
+  ended-on {t} e h = gave-on q (resultIn w) (shortIn w) e (ev .goes t h)
+
+  -- with the value by another name
+  pub ended-as : {t : Tree} {v : Val} → not q ≡ false → v ≡ valueAt (registersPart w) 0 → Stands b n t → Goes (given b s r) (λ x. eval (look (x .env) t)) w₀ o₀ (ended v) w o
+  ended-as e p h = told (ap (λ (v : Val). ended v) (sym (result-is w p))) (ended-on e h)
+
+  pub short-on : {t : Tree} → not q ≡ true → Stands b n t → Goes (given b s r) (λ x. eval (look (x .env) t)) w₀ o₀ (short (shortOf (shortIn w))) w o
+  short-on {t} e h = fell-on q (resultIn w) (shortIn w) e (ev .goes t h)
+
+  -- what is ready after an evaluation that gave a value
+  pub ready-on : ReadyIn (given b s r) w₀ → not q ≡ false → Fine b n → ReadyIn (given b s r) w
+  ready-on p e f = ready-after (ended-on e (f .spells)) p
+
+  pub fit-on : ReadyIn (given b s r) w₀ → not q ≡ false → Fine b n → Fit w (countsIn w .stored)
+  fit-on p e f = ready-on p e f .ready .fit
+
+  pub regions-on : ReadyIn (given b s r) w₀ → not q ≡ false → Fine b n → RegionsIndexed r (regionsPart (tables w)) (howIn w .regions)
+  regions-on p e f = ready-on p e f .ready .regions
 
 -- a node told by an equal number
 pub stands-at : {b : List ℕ} {i j : ℕ} {t : Tree} → j ≡ i → Stands b i t → Stands b j t
 stands-at {b} {t = t} e h = subst (λ (n : ℕ). Stands b n t) (sym e) h
 
--- what ended short, told by the same result
-shortly : {g : Given} {w₀ o₀ : List ℕ} {a₀ : Counts} {r : Evaluated} {y : Short} {w o : List ℕ} {m : Scene → Act Val} → r .outcome ≡ Ends y
-    → Runs g m w₀ o₀ a₀ (short (shortOf y)) w o (r .at) → Runs g m w₀ o₀ a₀ (endOf (r .outcome)) w o (r .at)
-shortly e p = told (ap endOf e) refl p
+-- ---- where a test has shown a kind that is not an Assign's, nothing more is to be told
+
+pub alone : {P Q : Type 0} {m : ℕ} (k : ℕ) → eqb k 13 ≡ false → m ≡ k → P → P × (m ≡ 13 → Q)
+alone k ne p x = (x, λ e. absurd (eqb-false k 13 ne (sym p ∙ e)))
 
 -- ---- the kinds that do nothing but give a value
 
@@ -90,206 +115,205 @@ abbrev Past : ℕ → ℕ → Type 0
 Past zero k = Unit {0}
 Past (suc n) k = Past n k × (k ≡ n → ⊥)
 
-module _ {g : Given} {n : ℕ} {w o : List ℕ} {a : Counts} {r : Evaluated} {kind : ℕ} (p : kind ≡ kindOf (g .nodes) n) (ready : Ready g w a) where
-  pub constant-evals : kind ≡ 0 → Gives a (knownVal (valueOf (g .nodes) n) (type (widthOf (g .nodes) n * 8) true)) r → Evals g n w o a r w o
+module _ {b s r : List ℕ} {n : ℕ} {w o : List ℕ} {q : Bool} {w′ : List ℕ} {kind : ℕ} (p : kind ≡ kindOf b n) where
+  pub constant-evals : kind ≡ 0 → Gives w (knownVal (valueOf b n) (type (widthOf b n * 8) true)) q w′ → Evaluates b s r n w o q w′ o
   unfolding evalAs
-  constant-evals q e = by 0 (sym p ∙ q) (λ ts h. gives r ready e)
+  constant-evals k e = by 0 (sym p ∙ k) (λ ts h. gives-goes e)
 
-  pub register-evals : kind ≡ 2 → Gives a (unknownVal (type (widthOf (g .nodes) n) true)) r → Evals g n w o a r w o
+  pub register-evals : kind ≡ 2 → Gives w (unknownVal (type (widthOf b n) true)) q w′ → Evaluates b s r n w o q w′ o
   unfolding evalAs
-  register-evals q e = by 2 (sym p ∙ q) (λ ts h. gives r ready e)
+  register-evals k e = by 2 (sym p ∙ k) (λ ts h. gives-goes e)
 
-  pub string-evals : kind ≡ 3 → Gives a (unknownVal (type 64 false)) r → Evals g n w o a r w o
+  pub string-evals : kind ≡ 3 → Gives w (unknownVal (type 64 false)) q w′ → Evaluates b s r n w o q w′ o
   unfolding evalAs
-  string-evals q e = by 3 (sym p ∙ q) (λ ts h. gives r ready e)
+  string-evals k e = by 3 (sym p ∙ k) (λ ts h. gives-goes e)
 
-  pub function-evals : kind ≡ 4 → Gives a (unknownVal (type 64 false)) r → Evals g n w o a r w o
+  pub function-evals : kind ≡ 4 → Gives w (unknownVal (type 64 false)) q w′ → Evaluates b s r n w o q w′ o
   unfolding evalAs
-  function-evals q e = by 4 (sym p ∙ q) (λ ts h. gives r ready e)
+  function-evals k e = by 4 (sym p ∙ k) (λ ts h. gives-goes e)
 
-  pub true-evals : kind ≡ 5 → Gives a (knownVal 1 (type 8 false)) r → Evals g n w o a r w o
+  pub true-evals : kind ≡ 5 → Gives w (knownVal 1 (type 8 false)) q w′ → Evaluates b s r n w o q w′ o
   unfolding evalAs
-  true-evals q e = by 5 (sym p ∙ q) (λ ts h. gives r ready e)
+  true-evals k e = by 5 (sym p ∙ k) (λ ts h. gives-goes e)
 
-  pub false-evals : kind ≡ 6 → Gives a (knownVal 0 (type 8 false)) r → Evals g n w o a r w o
+  pub false-evals : kind ≡ 6 → Gives w (knownVal 0 (type 8 false)) q w′ → Evaluates b s r n w o q w′ o
   unfolding evalAs
-  false-evals q e = by 6 (sym p ∙ q) (λ ts h. gives r ready e)
+  false-evals k e = by 6 (sym p ∙ k) (λ ts h. gives-goes e)
 
-  pub decided-evals : kind ≡ 7 → Gives a (knownVal (flagOf (g .nodes) n) (type 8 false)) r → Evals g n w o a r w o
+  pub decided-evals : kind ≡ 7 → Gives w (knownVal (flagOf b n) (type 8 false)) q w′ → Evaluates b s r n w o q w′ o
   unfolding evalAs
-  decided-evals q e = by 7 (sym p ∙ q) (λ ts h. gives r ready e)
+  decided-evals k e = by 7 (sym p ∙ k) (λ ts h. gives-goes e)
 
-  pub struct-evals : kind ≡ 17 → Gives a (unknownVal (type 64 false)) r → Evals g n w o a r w o
+  pub struct-evals : kind ≡ 17 → Gives w (unknownVal (type 64 false)) q w′ → Evaluates b s r n w o q w′ o
   unfolding evalAs
-  struct-evals q e = by 17 (sym p ∙ q) (λ ts h. gives r ready e)
+  struct-evals k e = by 17 (sym p ∙ k) (λ ts h. gives-goes e)
 
-  plain-evals : kind ≡ 19 → Gives a (unknownVal (type 64 true)) r → Evals g n w o a r w o
+  plain-evals : kind ≡ 19 → Gives w (unknownVal (type 64 true)) q w′ → Evaluates b s r n w o q w′ o
   unfolding evalAs
-  plain-evals q e = by 19 (sym p ∙ q) (λ ts h. gives r ready e)
+  plain-evals k e = by 19 (sym p ∙ k) (λ ts h. gives-goes e)
 
   -- a kind that is none of the others
-  pub last-evals : Fine (g .nodes) n → Past 18 kind → Gives a (unknownVal (type 64 true)) r → Evals g n w o a r w o
-  last-evals f others e = plain-evals (search (last-kind (f .spells) kind p)) e
+  pub last-evals : {Q : Type 0} → Fine b n → Past 18 kind → Gives w (unknownVal (type 64 true)) q w′ → Evaluates b s r n w o q w′ o × (kindOf b n ≡ 13 → Q)
+  last-evals f others e = let k : kind ≡ 19 = search (last-kind (f .spells) kind p) in alone 19 refl (sym p ∙ k) (plain-evals k e)
 
--- ---- Var and AddressOf, which a step does whole
+-- ---- Var and AddressOf, which an operation does whole
 
-module _ {n : ℕ} {w o₀ : List ℕ} {a₀ : Counts} {r : Evaluated} {o : List ℕ} {kind : ℕ} where
-  pub var-evals : {g : Given} → kind ≡ kindOf (g .nodes) n → kind ≡ 1
-      → Runs g (λ x. readVariable (x .env) (refOf (g .nodes) n)) w o₀ a₀ (endOf (r .outcome)) w o (r .at) → Evals g n w o₀ a₀ r w o
+module _ {b s r : List ℕ} {n : ℕ} {w₀ o₀ : List ℕ} {q : Bool} {w o : List ℕ} {kind : ℕ} (p : kind ≡ kindOf b n) where
+  pub var-evals : kind ≡ 1 → Goes (given b s r) (λ x. readVariable (x .env) (refOf b n)) w₀ o₀ (endIn q w) w o → Evaluates b s r n w₀ o₀ q w o
   unfolding evalAs
-  var-evals p q e = by 1 (sym p ∙ q) (λ ts h. e)
+  var-evals k e = by 1 (sym p ∙ k) (λ ts h. e)
 
-  pub address-evals : {nodes symbols regions : List ℕ} {how : How} → kind ≡ kindOf nodes n → kind ≡ 10 → Ready (given nodes symbols regions how) w a₀
-      → Addresses nodes symbols how (n + 1) w o₀ a₀ r o → Evals (given nodes symbols regions how) n w o₀ a₀ r w o
+  pub address-evals : kind ≡ 10 → Addresses b s (n + 1) w₀ o₀ q w o → Evaluates b s r n w₀ o₀ q w o
   unfolding evalAs look kid
-  address-evals {nodes} {symbols} {regions} {how} p q ready e = by 10 (sym p ∙ q) (λ ts h. go ts h)
+  address-evals k e = by 10 (sym p ∙ k) (λ ts h. go ts h)
     where
-      go : (ts : Trees) → Shape nodes 10 n ts → Runs (given nodes symbols regions how) (λ x. actAs (given nodes symbols regions how) x 10 n ts) w o₀ a₀ (endOf (r .outcome)) w o (r .at)
-      go ts (an-address {a = t} h e′) = e .runs regions ready t h
+      go : (ts : Trees) → Shape b 10 n ts → Goes (given b s r) (λ x. actAs b x 10 n ts) w₀ o₀ (endIn q w) w o
+      go ts (an-address {a = t} h _) = e .goes r t h
 
 -- ---- Cast
 
-module _ {g : Given} {n : ℕ} {w₀ o₀ : List ℕ} {a₀ : Counts} {w o : List ℕ} {q : Evaluated} where
-  pub cast-evals : {v : Val} {r : Evaluated} → kindOf (g .nodes) n ≡ 8 → Evals g (n + 1) w₀ o₀ a₀ q w o → q .outcome ≡ Is v
-      → Gives (q .at) (castTo v (typeAt (tables w) (refOf (g .nodes) n))) r → Evals g n w₀ o₀ a₀ r w o
+module _ {b s r : List ℕ} {n : ℕ} {w₀ o₀ : List ℕ} {q : Bool} {w o : List ℕ} (k : kindOf b n ≡ 8) (ev : Evaluates b s r (n + 1) w₀ o₀ q w o) where
+  pub cast-evals : {u : Bool} {w′ : List ℕ} → not q ≡ false → Gives w (castTo (resultIn w) (typeAt (tables w) (refOf b n))) u w′ → Evaluates b s r n w₀ o₀ u w′ o
   unfolding evalAs look kid
-  cast-evals {v} {r} k ev eo e = by 8 k (λ ts h. go ts h)
+  cast-evals {u} {w′} eq e = by 8 k (λ ts h. go ts h)
     where
-      go : (ts : Trees) → Shape (g .nodes) 8 n ts → Runs g (λ x. actAs g x 8 n ts) w₀ o₀ a₀ (endOf (r .outcome)) w o (r .at)
-      go ts (a-cast l h e′) = goes _ (ended-on ev eo h) (told (ap endOf (e .value)) (e .at)
-          (done-runs (λ x. castTo v (typeOf (getD (x .env .types) (refOf (g .nodes) n) []))) (λ x m. ap (castTo v) (sym (m .types (refOf (g .nodes) n) l))) (ended-on ev eo h .ready)))
+      go : (ts : Trees) → Shape b 8 n ts → Goes (given b s r) (λ x. actAs b x 8 n ts) w₀ o₀ (endIn u w′) w′ o
+      go ts (a-cast l h _) = goes _ (ended-on ev eq h) (beside-after (e .beside) (told (by-true (shortIn w′) (e .yes) (e .value))
+          (done-goes (λ x. castTo (resultIn w) (typeOf (getD (x .env .types) (refOf b n) []))) (λ _ x m. ap (castTo (resultIn w)) (sym (m .types (refOf b n) l))))))
 
-  pub cast-short : {y : Short} → kindOf (g .nodes) n ≡ 8 → Evals g (n + 1) w₀ o₀ a₀ q w o → q .outcome ≡ Ends y → Evals g n w₀ o₀ a₀ q w o
+  pub cast-short : not q ≡ true → Evaluates b s r n w₀ o₀ false w o
   unfolding evalAs look kid
-  cast-short k ev eo = by 8 k (λ ts h. go ts h)
+  cast-short eq = by 8 k (λ ts h. go ts h)
     where
-      go : (ts : Trees) → Shape (g .nodes) 8 n ts → Runs g (λ x. actAs g x 8 n ts) w₀ o₀ a₀ (endOf (q .outcome)) w o (q .at)
-      go ts (a-cast l h e′) = shortly eo (halts _ _ (short-on ev eo h))
+      go : (ts : Trees) → Shape b 8 n ts → Goes (given b s r) (λ x. actAs b x 8 n ts) w₀ o₀ (endIn false w) w o
+      go ts (a-cast l h _) = halts _ _ (short-on ev eq h)
 
 -- ---- Ternary
 
-module _ {g : Given} {n : ℕ} {w₀ o₀ : List ℕ} {a₀ : Counts} {w₁ o₁ : List ℕ} {p : Evaluated} (k : kindOf (g .nodes) n ≡ 11) (ea : Evals g (n + 1) w₀ o₀ a₀ p w₁ o₁) where
-  pub ternary-short : {y : Short} → p .outcome ≡ Ends y → Evals g n w₀ o₀ a₀ p w₁ o₁
+module _ {b s r : List ℕ} {n : ℕ} {w₀ o₀ : List ℕ} {p : Bool} {w₁ o₁ : List ℕ} (k : kindOf b n ≡ 11) (ea : Evaluates b s r (n + 1) w₀ o₀ p w₁ o₁) where
+  pub ternary-short : not p ≡ true → Evaluates b s r n w₀ o₀ false w₁ o₁
   unfolding evalAs look kid
-  ternary-short eo = by 11 k (λ ts h. go ts h)
+  ternary-short ep = by 11 k (λ ts h. go ts h)
     where
-      go : (ts : Trees) → Shape (g .nodes) 11 n ts → Runs g (λ x. actAs g x 11 n ts) w₀ o₀ a₀ (endOf (p .outcome)) w₁ o₁ (p .at)
-      go ts (a-ternary h i j e) = shortly eo (halts _ _ (short-on ea eo h))
+      go : (ts : Trees) → Shape b 11 n ts → Goes (given b s r) (λ x. actAs b x 11 n ts) w₀ o₀ (endIn false w₁) w₁ o₁
+      go ts (a-ternary h i j e) = halts _ _ (short-on ea ep h)
 
-  module _ {m : ℕ} {x : Val} {w₂ o₂ : List ℕ} {q : Evaluated} (eo : p .outcome ≡ Is x) (em : m ≡ next (g .nodes) (n + 1)) (eb : Evals g m w₁ o₁ (p .at) q w₂ o₂) where
-    pub ternary-short-second : {y : Short} → q .outcome ≡ Ends y → Evals g n w₀ o₀ a₀ q w₂ o₂
+  module _ {m : ℕ} {q : Bool} {w₂ o₂ : List ℕ} (ep : not p ≡ false) (em : m ≡ next b (n + 1)) (eb : Evaluates b s r m w₁ o₁ q w₂ o₂) where
+    pub ternary-short-second : not q ≡ true → Evaluates b s r n w₀ o₀ false w₂ o₂
     unfolding evalAs look kid
-    ternary-short-second ep = by 11 k (λ ts h. go ts h)
+    ternary-short-second eq = by 11 k (λ ts h. go ts h)
       where
-        go : (ts : Trees) → Shape (g .nodes) 11 n ts → Runs g (λ x. actAs g x 11 n ts) w₀ o₀ a₀ (endOf (q .outcome)) w₂ o₂ (q .at)
-        go ts (a-ternary h i j e) = goes _ (ended-on ea eo h) (shortly ep (halts _ _ (short-on eb ep (stands-at em i))))
+        go : (ts : Trees) → Shape b 11 n ts → Goes (given b s r) (λ x. actAs b x 11 n ts) w₀ o₀ (endIn false w₂) w₂ o₂
+        go ts (a-ternary h i j e) = goes _ (ended-on ea ep h) (halts _ _ (short-on eb eq (stands-at em i)))
 
-    module _ {l : ℕ} {y : Val} {w₃ o₃ : List ℕ} {s : Evaluated} (ep : q .outcome ≡ Is y) (el : l ≡ next (g .nodes) m) (ec : Evals g l w₂ o₂ (q .at) s w₃ o₃) where
-      pub ternary-short-third : {z : Short} → s .outcome ≡ Ends z → Evals g n w₀ o₀ a₀ s w₃ o₃
+    module _ {l : ℕ} {z : Bool} {w₃ o₃ : List ℕ} (eq : not q ≡ false) (el : l ≡ next b m) (ec : Evaluates b s r l w₂ o₂ z w₃ o₃) where
+      pub ternary-short-third : not z ≡ true → Evaluates b s r n w₀ o₀ false w₃ o₃
       unfolding evalAs look kid
-      ternary-short-third eq = by 11 k (λ ts h. go ts h)
+      ternary-short-third ez = by 11 k (λ ts h. go ts h)
         where
-          go : (ts : Trees) → Shape (g .nodes) 11 n ts → Runs g (λ x. actAs g x 11 n ts) w₀ o₀ a₀ (endOf (s .outcome)) w₃ o₃ (s .at)
-          go ts (a-ternary h i j e) = goes _ (ended-on ea eo h) (goes _ (ended-on eb ep (stands-at em i)) (shortly eq (halts _ _ (short-on ec eq (stands-at (el ∙ ap (next (g .nodes)) em) j)))))
+          go : (ts : Trees) → Shape b 11 n ts → Goes (given b s r) (λ x. actAs b x 11 n ts) w₀ o₀ (endIn false w₃) w₃ o₃
+          go ts (a-ternary h i j e) = goes _ (ended-on ea ep h) (goes _ (ended-on eb eq (stands-at em i)) (halts _ _ (short-on ec ez (stands-at (el ∙ ap (next b) em) j))))
 
-      pub ternary-evals : {z : Val} {r : Evaluated} → s .outcome ≡ Is z → Gives (s .at) (chosen x y z) r → Evals g n w₀ o₀ a₀ r w₃ o₃
+      pub ternary-evals : {x y : Val} {u : Bool} {w′ : List ℕ} → not z ≡ false → x ≡ valueAt (registersPart w₁) 0 → y ≡ valueAt (registersPart w₂) 0 → Gives w₃ (chosen x y (resultIn w₃)) u w′
+          → Evaluates b s r n w₀ o₀ u w′ o₃
       unfolding evalAs look kid
-      ternary-evals {r = r} eq e = by 11 k (λ ts h. go ts h)
+      ternary-evals {u = u} {w′ = w′} ez ex ey e = by 11 k (λ ts h. go ts h)
         where
-          go : (ts : Trees) → Shape (g .nodes) 11 n ts → Runs g (λ x. actAs g x 11 n ts) w₀ o₀ a₀ (endOf (r .outcome)) w₃ o₃ (r .at)
-          go ts (a-ternary h i j _) = let u = ended-on ec eq (stands-at (el ∙ ap (next (g .nodes)) em) j) in goes _ (ended-on ea eo h) (goes _ (ended-on eb ep (stands-at em i)) (goes _ u (gives r (u .ready) e)))
+          go : (ts : Trees) → Shape b 11 n ts → Goes (given b s r) (λ x. actAs b x 11 n ts) w₀ o₀ (endIn u w′) w′ o₃
+          go ts (a-ternary h i j _) =
+              goes _ (ended-as ea ep ex h) (goes _ (ended-as eb eq ey (stands-at em i)) (goes _ (ended-on ec ez (stands-at (el ∙ ap (next b) em) j)) (gives-goes e)))
 
 -- ---- Binary
 
-answers : {g : Given} {w o : List ℕ} {a : Counts} → Ready g w a → (z : Answer) → Runs g (λ x. answered z) w o a (answerEnd z) w o a
-answers p (Value u) = done-runs (λ _. u) (λ x h. refl) p
-answers p DivisionByZero = fail-runs p
+answers : {g : How → Given} {w o : List ℕ} (z : Answer) → Goes g (λ x. answered z) w o (answerEnd z) w o
+answers (Value u) = done-goes (λ _. u) (λ h x m. refl)
+answers DivisionByZero = fail-goes
 
-module _ {g : Given} {n : ℕ} {w₀ o₀ : List ℕ} {a₀ : Counts} {w₁ o₁ : List ℕ} {p : Evaluated} (k : kindOf (g .nodes) n ≡ 12) (ea : Evals g (n + 1) w₀ o₀ a₀ p w₁ o₁) where
-  pub binary-short : {y : Short} → p .outcome ≡ Ends y → Evals g n w₀ o₀ a₀ p w₁ o₁
+module _ {b s r : List ℕ} {n : ℕ} {w₀ o₀ : List ℕ} {p : Bool} {w₁ o₁ : List ℕ} (k : kindOf b n ≡ 12) (ea : Evaluates b s r (n + 1) w₀ o₀ p w₁ o₁) where
+  pub binary-short : not p ≡ true → Evaluates b s r n w₀ o₀ false w₁ o₁
   unfolding evalAs look kid
-  binary-short eo = by 12 k (λ ts h. go ts h)
+  binary-short ep = by 12 k (λ ts h. go ts h)
     where
-      go : (ts : Trees) → Shape (g .nodes) 12 n ts → Runs g (λ x. actAs g x 12 n ts) w₀ o₀ a₀ (endOf (p .outcome)) w₁ o₁ (p .at)
-      go ts (a-binary h i e) = shortly eo (halts _ _ (short-on ea eo h))
+      go : (ts : Trees) → Shape b 12 n ts → Goes (given b s r) (λ x. actAs b x 12 n ts) w₀ o₀ (endIn false w₁) w₁ o₁
+      go ts (a-binary h i e) = halts _ _ (short-on ea ep h)
 
-  module _ {m : ℕ} {l : Val} {w₂ o₂ : List ℕ} {q : Evaluated} (eo : p .outcome ≡ Is l) (em : m ≡ next (g .nodes) (n + 1)) (eb : Evals g m w₁ o₁ (p .at) q w₂ o₂) where
-    pub binary-short-right : {y : Short} → q .outcome ≡ Ends y → Evals g n w₀ o₀ a₀ q w₂ o₂
+  module _ {m : ℕ} {q : Bool} {w₂ o₂ : List ℕ} (ep : not p ≡ false) (em : m ≡ next b (n + 1)) (eb : Evaluates b s r m w₁ o₁ q w₂ o₂) where
+    pub binary-short-right : not q ≡ true → Evaluates b s r n w₀ o₀ false w₂ o₂
     unfolding evalAs look kid
-    binary-short-right ep = by 12 k (λ ts h. go ts h)
+    binary-short-right eq = by 12 k (λ ts h. go ts h)
       where
-        go : (ts : Trees) → Shape (g .nodes) 12 n ts → Runs g (λ x. actAs g x 12 n ts) w₀ o₀ a₀ (endOf (q .outcome)) w₂ o₂ (q .at)
-        go ts (a-binary h i e) = goes _ (ended-on ea eo h) (shortly ep (halts _ _ (short-on eb ep (stands-at em i))))
+        go : (ts : Trees) → Shape b 12 n ts → Goes (given b s r) (λ x. actAs b x 12 n ts) w₀ o₀ (endIn false w₂) w₂ o₂
+        go ts (a-binary h i e) = goes _ (ended-on ea ep h) (halts _ _ (short-on eb eq (stands-at em i)))
 
-    pub binary-evals : {v : Val} {r : Evaluated} → q .outcome ≡ Is v → Answers (q .at) (binaryOf (operatorOf (flagOf (g .nodes) n)) l v) r → Evals g n w₀ o₀ a₀ r w₂ o₂
+    pub binary-evals : {l : Val} {u : Bool} {w′ : List ℕ} → not q ≡ false → l ≡ valueAt (registersPart w₁) 0 → Answers w₂ (binaryOf (operatorOf (flagOf b n)) l (resultIn w₂)) u w′ → Evaluates b s r n w₀ o₀ u w′ o₂
     unfolding evalAs look kid
-    binary-evals {v} {r} ep e = by 12 k (λ ts h. go ts h)
+    binary-evals {l} {u} {w′} eq el e = by 12 k (λ ts h. go ts h)
       where
-        go : (ts : Trees) → Shape (g .nodes) 12 n ts → Runs g (λ x. actAs g x 12 n ts) w₀ o₀ a₀ (endOf (r .outcome)) w₂ o₂ (r .at)
-        go ts (a-binary h i _) = let u = ended-on eb ep (stands-at em i) in
-            goes _ (ended-on ea eo h) (goes _ u (told (e .ends) (e .at) (answers (u .ready) (binaryOf (operatorOf (flagOf (g .nodes) n)) l v))))
+        go : (ts : Trees) → Shape b 12 n ts → Goes (given b s r) (λ x. actAs b x 12 n ts) w₀ o₀ (endIn u w′) w′ o₂
+        go ts (a-binary h i _) = goes _ (ended-as ea ep el h) (goes _ (ended-on eb eq (stands-at em i))
+            (beside-after (e .beside) (told (e .ends) (answers (binaryOf (operatorOf (flagOf b n)) l (resultIn w₂))))))
 
 -- ---- Return
 
-module _ {g : Given} {n e : ℕ} {w₀ o₀ : List ℕ} {a₀ : Counts} {r : Evaluated} (k : kindOf (g .nodes) n ≡ 16) (ee : e ≡ next (g .nodes) n) where
-  pub returned-nothing : e ≡ n + 1 → Ready g w₀ a₀ → Gives a₀ nothing r → Evals g n w₀ o₀ a₀ r w₀ o₀
+module _ {b s r : List ℕ} {n e : ℕ} {w₀ o₀ : List ℕ} {q : Bool} {w : List ℕ} (k : kindOf b n ≡ 16) (ee : e ≡ next b n) where
+  pub returned-nothing : e ≡ n + 1 → Gives w₀ nothing q w → Evaluates b s r n w₀ o₀ q w o₀
   unfolding evalAs look kid
-  returned-nothing z ready p = by 16 k (λ ts h. go ts h)
+  returned-nothing z p = by 16 k (λ ts h. go ts h)
     where
-      go : (ts : Trees) → Shape (g .nodes) 16 n ts → Runs g (λ x. actAs g x 16 n ts) w₀ o₀ a₀ (endOf (r .outcome)) w₀ o₀ (r .at)
-      go ts (a-leave _) = gives r ready p
+      go : (ts : Trees) → Shape b 16 n ts → Goes (given b s r) (λ x. actAs b x 16 n ts) w₀ o₀ (endIn q w) w o₀
+      go ts (a-leave _) = gives-goes p
       go ts (a-give l h _) = absurd (omega (arith, l, z, ee))
 
-  pub returned-evals : {w o : List ℕ} → (e ≡ n + 1 → ⊥) → Evals g (n + 1) w₀ o₀ a₀ r w o → Evals g n w₀ o₀ a₀ r w o
+  pub returned-evals : {o : List ℕ} → (e ≡ n + 1 → ⊥) → Evaluates b s r (n + 1) w₀ o₀ q w o → Evaluates b s r n w₀ o₀ q w o
   unfolding evalAs look kid
-  returned-evals {w} {o} ne ev = by 16 k (λ ts h. go ts h)
+  returned-evals {o} ne ev = by 16 k (λ ts h. go ts h)
     where
-      go : (ts : Trees) → Shape (g .nodes) 16 n ts → Runs g (λ x. actAs g x 16 n ts) w₀ o₀ a₀ (endOf (r .outcome)) w o (r .at)
+      go : (ts : Trees) → Shape b 16 n ts → Goes (given b s r) (λ x. actAs b x 16 n ts) w₀ o₀ (endIn q w) w o
       go ts (a-leave l) = absurd (ne (omega (arith, l, ee)))
-      go ts (a-give {a = t} l h _) = ev .runs t h
+      go ts (a-give {a = t} l h _) = ev .goes t h
 
 -- ---- Intrinsic
 
-pub intrinsic-evals : {g : Given} {n e : ℕ} {w₀ o₀ : List ℕ} {a₀ : Counts} {r : Evaluated} {w o : List ℕ} → kindOf (g .nodes) n ≡ 15 → e ≡ next (g .nodes) n
-    → EvalsKids g (n + 1) e w₀ o₀ a₀ r w o → Evals g n w₀ o₀ a₀ r w o
+pub intrinsic-evals : {b s r : List ℕ} {n e : ℕ} {w₀ o₀ : List ℕ} {q : Bool} {w o : List ℕ} → kindOf b n ≡ 15 → e ≡ next b n
+    → EvaluatesKids b s r (n + 1) e w₀ o₀ q w o → Evaluates b s r n w₀ o₀ q w o
 unfolding evalAs
-intrinsic-evals {g} {n} {e} {w₀} {o₀} {a₀} {r} {w} {o} k ee ev = by 15 k (λ ts h. go ts h)
+intrinsic-evals {b} {s} {r} {n} {e} {w₀} {o₀} {q} {w} {o} k ee ev = by 15 k (λ ts h. go ts h)
   where
-    go : (ts : Trees) → Shape (g .nodes) 15 n ts → Runs g (λ x. actAs g x 15 n ts) w₀ o₀ a₀ (endOf (r .outcome)) w o (r .at)
-    go ts (an-intrinsic h) = ev .runs ts (subst (λ (j : ℕ). KidsAt (g .nodes) (n + 1) j ts) (sym ee) h)
+    go : (ts : Trees) → Shape b 15 n ts → Goes (given b s r) (λ x. actAs b x 15 n ts) w₀ o₀ (endIn q w) w o
+    go ts (an-intrinsic h) = ev .goes ts (subst (λ (j : ℕ). KidsAt b (n + 1) j ts) (sym ee) h)
 
 -- ---- trees side by side
 
 abbrev kidsAct : Scene → Trees → Act Val
 kidsAct x ts = evals (looks (x .env) ts) >> done nothing
 
-kids-none : {g : Given} {n e : ℕ} {w o : List ℕ} {a : Counts} {ts : Trees} (r : Evaluated) → KidsAt (g .nodes) n e ts → n ≡ e → Ready g w a → Gives a nothing r
-    → Runs g (λ x. kidsAct x ts) w o a (endOf (r .outcome)) w o (r .at)
+kids-none : {b s r : List ℕ} {n e : ℕ} {w o : List ℕ} {q : Bool} {w′ : List ℕ} {ts : Trees} → KidsAt b n e ts → n ≡ e → Gives w nothing q w′
+    → Goes (given b s r) (λ x. kidsAct x ts) w o (endIn q w′) w′ o
 unfolding look evals _>>=_
-kids-none r no-kid e p q = gives r p q
-kids-none r (a-kid lt h k) e p q = absurd (omega (arith, lt, e))
+kids-none no-kid e p = gives-goes p
+kids-none (a-kid lt h k) e p = absurd (omega (arith, lt, e))
 
-pub kids-end : {g : Given} {n e : ℕ} {w o : List ℕ} {a : Counts} {r : Evaluated} → n ≡ e → Ready g w a → Gives a nothing r → EvalsKids g n e w o a r w o
-kids-end {r = r} e p q = record { runs = λ ts h. kids-none r h e p q }
+pub kids-end : {b s r : List ℕ} {n e : ℕ} {w o : List ℕ} {q : Bool} {w′ : List ℕ} → n ≡ e → Gives w nothing q w′ → EvaluatesKids b s r n e w o q w′ o
+kids-end e p = record { goes = λ ts h. kids-none h e p }
 
-module _ {g : Given} {w₀ o₀ : List ℕ} {a₀ : Counts} {w₁ o₁ : List ℕ} {p : Evaluated} where
-  kids-one : {n e : ℕ} {v : Val} {w o : List ℕ} {r : Evaluated} {ts : Trees} → KidsAt (g .nodes) n e ts → (n ≡ e → ⊥) → Evals g n w₀ o₀ a₀ p w₁ o₁ → p .outcome ≡ Is v
-      → EvalsKids g (next (g .nodes) n) e w₁ o₁ (p .at) r w o → Runs g (λ x. kidsAct x ts) w₀ o₀ a₀ (endOf (r .outcome)) w o (r .at)
+module _ {b s r : List ℕ} {w₀ o₀ : List ℕ} {p : Bool} {w₁ o₁ : List ℕ} where
+  kids-one : {n e : ℕ} {q : Bool} {w o : List ℕ} {ts : Trees} → KidsAt b n e ts → (n ≡ e → ⊥) → Evaluates b s r n w₀ o₀ p w₁ o₁ → not p ≡ false
+      → EvaluatesKids b s r (next b n) e w₁ o₁ q w o → Goes (given b s r) (λ x. kidsAct x ts) w₀ o₀ (endIn q w) w o
   unfolding look evals _>>=_
-  kids-one no-kid ne ev eo ek = absurd (ne refl)
-  kids-one (a-kid {t = t} {ts = ts} lt h k) ne ev eo ek =
-      assoc (λ x. eval (look (x .env) t)) _ _ (goes _ (ended-on ev eo h) (assoc (λ x. evals (looks (x .env) ts)) _ _ (ek .runs ts k)))
+  kids-one no-kid ne ev ep ek = absurd (ne refl)
+  kids-one (a-kid {t = t} {ts = ts} lt h k) ne ev ep ek =
+      assoc (λ x. eval (look (x .env) t)) _ _ (goes _ (ended-on ev ep h) (assoc (λ x. evals (looks (x .env) ts)) _ _ (ek .goes ts k)))
 
-  kids-stop : {n e : ℕ} {y : Short} {ts : Trees} → KidsAt (g .nodes) n e ts → (n ≡ e → ⊥) → Evals g n w₀ o₀ a₀ p w₁ o₁ → p .outcome ≡ Ends y
-      → Runs g (λ x. kidsAct x ts) w₀ o₀ a₀ (endOf (p .outcome)) w₁ o₁ (p .at)
+  kids-stop : {n e : ℕ} {ts : Trees} → KidsAt b n e ts → (n ≡ e → ⊥) → Evaluates b s r n w₀ o₀ p w₁ o₁ → not p ≡ true
+      → Goes (given b s r) (λ x. kidsAct x ts) w₀ o₀ (endIn false w₁) w₁ o₁
   unfolding look evals
-  kids-stop no-kid ne ev eo = absurd (ne refl)
-  kids-stop (a-kid {t = t} lt h k) ne ev eo = shortly eo (assoc (λ x. eval (look (x .env) t)) _ _ (halts _ _ (short-on ev eo h)))
+  kids-stop no-kid ne ev ep = absurd (ne refl)
+  kids-stop (a-kid {t = t} lt h k) ne ev ep = assoc (λ x. eval (look (x .env) t)) _ _ (halts _ _ (short-on ev ep h))
 
-  module _ {n e : ℕ} (ne : n ≡ e → ⊥) (ev : Evals g n w₀ o₀ a₀ p w₁ o₁) where
-    pub kids-evals : {m : ℕ} {v : Val} {w o : List ℕ} {r : Evaluated} → p .outcome ≡ Is v → m ≡ next (g .nodes) n → EvalsKids g m e w₁ o₁ (p .at) r w o → EvalsKids g n e w₀ o₀ a₀ r w o
-    kids-evals {w = w} {o = o} {r = r} eo em ek =
-        record { runs = λ ts h. kids-one h ne ev eo (subst (λ (j : ℕ). EvalsKids g j e w₁ o₁ (p .at) r w o) em ek) }
+  module _ {n e : ℕ} (ne : n ≡ e → ⊥) (ev : Evaluates b s r n w₀ o₀ p w₁ o₁) where
+    pub kids-evals : {m : ℕ} {q : Bool} {w o : List ℕ} → not p ≡ false → m ≡ next b n → EvaluatesKids b s r m e w₁ o₁ q w o → EvaluatesKids b s r n e w₀ o₀ q w o
+    kids-evals {q = q} {w = w} {o = o} ep em ek =
+        record { goes = λ ts h. kids-one h ne ev ep (subst (λ (j : ℕ). EvaluatesKids b s r j e w₁ o₁ q w o) em ek) }
 
-    pub kids-short : {y : Short} → p .outcome ≡ Ends y → EvalsKids g n e w₀ o₀ a₀ p w₁ o₁
-    kids-short eo = record { runs = λ ts h. kids-stop h ne ev eo }
+    pub kids-short : not p ≡ true → EvaluatesKids b s r n e w₀ o₀ false w₁ o₁
+    kids-short ep = record { goes = λ ts h. kids-stop h ne ev ep }

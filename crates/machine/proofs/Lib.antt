@@ -1,12 +1,11 @@
 pub mod Ranks
+pub mod Room
 pub mod Evaluating
-pub mod Answering
 pub mod Pointing
 pub mod Assigning
 pub mod Storing
 pub mod Calling
 pub mod Siblings
-pub mod Working
-pub mod Asking
-pub mod Naming
-pub mod Taking
+pub mod SiblingArgs
+pub mod SiblingFields
+pub mod Entering

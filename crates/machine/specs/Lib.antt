@@ -1,4 +1,1 @@
 pub mod Post
-pub mod Steps
-pub mod Asking
-pub mod Taking

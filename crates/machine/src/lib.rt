@@ -1,41 +1,32 @@
 // The machine: expressions in a routine's nodes, evaluated and executed against a world, in a lent workspace, with what they ask written to a lent part.
-// The cycle of calls is in this file: each member dispatches and combines. What else they do is in the modules, in functions of their own.
-// From sibling to sibling a member goes by a loop, so that the stack grows with the depth of a tree alone.
-mod calls;
-mod names;
-mod places;
-mod results;
-mod values;
-
+// The cycle of calls is in this file: each member dispatches and combines. What else they do is in the crate of operations.
+// What an evaluation comes to is handed on in the workspace's registers, so that a level of the tree takes little of the stack; from sibling to sibling a member
+// goes by a loop, so that the stack grows with the depth of a tree alone.
 ghost use mathlib.Core.Path.{_≡_};
-ghost use Prim.Native.Nat.{ℕ, _+_, _*_, _<_, _≤_};
+ghost use Prim.Native.Nat.{_<_};
 ghost use lib.ListN.{length};
 ghost use Rattle.files.specs.Nodes.{kindOf};
-ghost use Rattle.files.specs.Spells.{next};
 ghost use Rattle.hosting.specs.Scene.{given, Ready};
-ghost use Rattle.machine.specs.Post.{Evals, Executes, Points, EvalsKids, EvalsArgs, AssignsVal, AssignsStruct, StoresStruct, StoresFields};
 ghost use Rattle.hosting.specs.Stands.{Fine, FineKids, FineArgs, FineFields};
+ghost use Rattle.operations.specs.Registers.{resultIn};
+ghost use Rattle.operations.specs.Going.{ReadyIn};
+ghost use Rattle.machine.specs.Post.{Evals, Executes, Evaluates, Assigns, EvaluatesKids, EvaluatesArgs, AssignsVal, AssignsStruct, StoresStruct, StoresFields};
 use files::nodes;
 use hosting::Counts;
 use hosting::Evaluated;
 use hosting::Executed;
 use hosting::How;
-use hosting::Outcome;
-use value::Ty;
-use value::Val;
+use operations::calls;
+use operations::names;
+use operations::places;
+use operations::results;
+use operations::values;
+use workspace::registers;
 
-// A Deref's target: the address, and the type of what is there.
-pub struct Pointed {
-    pub outcome: Outcome,
-    pub ty: Ty,
-    pub at: Counts,
-}
-
-// So many values of arguments.
+// Whether each argument has a value, and how many there are.
 pub struct Filled {
-    pub outcome: Outcome,
+    pub ok: bool,
     pub count: usize,
-    pub at: Counts,
 }
 
 // The value of the expression at node n.
@@ -53,28 +44,9 @@ pub fn eval(
     requires { ⌜ Fine (now nodes) n ⌝ }
     ensures { λ r. ⌜ Evals (given (now (nodes .entry)) (now (symbols .entry)) (now (regions .entry)) how) n (now (ws .entry)) (now (out .entry)) at r (now (ws .exit)) (now (out .exit)) ⌝ }
 {
-    let kind = nodes::kind(nodes, n);
-    match kind {
-        0 => values::constant(nodes, n, at),
-        1 => names::variable(nodes, symbols, regions, ws, out, how, n, at),
-        2 => values::register(nodes, n, at),
-        3 => values::unknown(64, false, at),
-        4 => values::unknown(64, false, at),
-        5 => values::truth(1, at),
-        6 => values::truth(0, at),
-        7 => values::decided(nodes, n, at),
-        8 => cast(nodes, symbols, regions, ws, out, how, n, at),
-        9 => deref(nodes, symbols, regions, ws, out, how, n, at),
-        10 => names::address(nodes, symbols, ws, out, how, n + 1, at),
-        11 => ternary(nodes, symbols, regions, ws, out, how, n, at),
-        12 => binary(nodes, symbols, regions, ws, out, how, n, at),
-        13 => assigned(nodes, symbols, regions, ws, out, how, n, at),
-        14 => call(nodes, symbols, regions, ws, out, how, n, at),
-        15 => intrinsic(nodes, symbols, regions, ws, out, how, n, at),
-        16 => returned(nodes, symbols, regions, ws, out, how, n, at),
-        17 => values::unknown(64, false, at),
-        _ => values::unknown(64, true, at),
-    }
+    results::enter(ws, how, at);
+    let ok = evaluate(nodes, symbols, regions, ws, out, n);
+    results::evaluated(ws, ok)
 }
 
 // What a statement that is the expression at node n does.
@@ -92,36 +64,51 @@ pub fn execute(
     requires { ⌜ Fine (now nodes) n ⌝ }
     ensures { λ r. ⌜ Executes (given (now (nodes .entry)) (now (symbols .entry)) (now (regions .entry)) how) n (now (ws .entry)) (now (out .entry)) at r (now (ws .exit)) (now (out .exit)) ⌝ }
 {
+    results::enter(ws, how, at);
+    let ok = evaluate(nodes, symbols, regions, ws, out, n);
     let kind = nodes::kind(nodes, n);
     if kind == 13 {
-        return assign(nodes, symbols, regions, ws, out, how, n, at);
-    }
-    let a = eval(nodes, symbols, regions, ws, out, how, n, at);
-    let o = a.outcome;
-    match o {
-        Outcome::Is(v) => values::executed(ws, kind, v, a.at),
-        Outcome::Ends(s) => results::fails(s.reason, s.number, a.at),
+        results::executed(ws, ok)
+    } else {
+        results::noted(ws, kind, ok)
     }
 }
 
-// A Deref's target, at node n. A Cast to a pointer is not evaluated, what is under it is.
-fn pointer(
+// The expression at node n is evaluated. Of an Assign the registers also tell what it did.
+fn evaluate(
     nodes: &[u8],
     symbols: &[u8],
     regions: &[u8],
     ws: &mut [u8],
     out: &mut [u8],
-    how: How,
     n: usize,
-    at: Counts,
-) -> Pointed
-    requires { ⌜ Ready (given (now nodes) (now symbols) (now regions) how) (now ws) at ⌝ }
+) -> bool
+    requires { ⌜ ReadyIn (given (now nodes) (now symbols) (now regions)) (now ws) ⌝ }
     requires { ⌜ Fine (now nodes) n ⌝ }
-    ensures { λ r. ⌜ Points (given (now (nodes .entry)) (now (symbols .entry)) (now (regions .entry)) how) n (now (ws .entry)) (now (out .entry)) at r (now (ws .exit)) (now (out .exit)) ⌝ }
+    ensures { λ r. ⌜ (Evaluates (now (nodes .entry)) (now (symbols .entry)) (now (regions .entry)) n (now (ws .entry)) (now (out .entry)) r (now (ws .exit)) (now (out .exit))) × ((kindOf (now (nodes .entry)) n ≡ 13) → Assigns (now (nodes .entry)) (now (symbols .entry)) (now (regions .entry)) n (now (ws .entry)) (now (out .entry)) r (now (ws .exit)) (now (out .exit))) ⌝ }
 {
-    let target = places::target_of(nodes, ws, n);
-    let a = eval(nodes, symbols, regions, ws, out, how, target.node, at);
-    results::pointed(a, target.ty)
+    let kind = nodes::kind(nodes, n);
+    match kind {
+        0 => values::constant(nodes, ws, n),
+        1 => names::variable(nodes, symbols, regions, ws, out, n),
+        2 => values::register(nodes, ws, n),
+        3 => values::unknown(ws, 64, false),
+        4 => values::unknown(ws, 64, false),
+        5 => values::truth(ws, 1),
+        6 => values::truth(ws, 0),
+        7 => values::decided(nodes, ws, n),
+        8 => cast(nodes, symbols, regions, ws, out, n),
+        9 => deref(nodes, symbols, regions, ws, out, n),
+        10 => names::address(nodes, symbols, ws, out, n + 1),
+        11 => ternary(nodes, symbols, regions, ws, out, n),
+        12 => binary(nodes, symbols, regions, ws, out, n),
+        13 => assigned(nodes, symbols, regions, ws, out, n),
+        14 => call(nodes, symbols, regions, ws, out, n),
+        15 => intrinsic(nodes, symbols, regions, ws, out, n),
+        16 => returned(nodes, symbols, regions, ws, out, n),
+        17 => values::unknown(ws, 64, false),
+        _ => values::unknown(ws, 64, true),
+    }
 }
 
 // A Cast.
@@ -131,45 +118,38 @@ fn cast(
     regions: &[u8],
     ws: &mut [u8],
     out: &mut [u8],
-    how: How,
     n: usize,
-    at: Counts,
-) -> Evaluated
-    requires { ⌜ Ready (given (now nodes) (now symbols) (now regions) how) (now ws) at ⌝ }
+) -> bool
+    requires { ⌜ ReadyIn (given (now nodes) (now symbols) (now regions)) (now ws) ⌝ }
     requires { ⌜ Fine (now nodes) n ⌝ }
     requires { ⌜ kindOf (now nodes) n ≡ 8 ⌝ }
-    ensures { λ r. ⌜ Evals (given (now (nodes .entry)) (now (symbols .entry)) (now (regions .entry)) how) n (now (ws .entry)) (now (out .entry)) at r (now (ws .exit)) (now (out .exit)) ⌝ }
+    ensures { λ r. ⌜ Evaluates (now (nodes .entry)) (now (symbols .entry)) (now (regions .entry)) n (now (ws .entry)) (now (out .entry)) r (now (ws .exit)) (now (out .exit)) ⌝ }
 {
-    let a = eval(nodes, symbols, regions, ws, out, how, n + 1, at);
-    let o = a.outcome;
-    match o {
-        Outcome::Is(v) => values::cast(nodes, ws, n, v, a.at),
-        Outcome::Ends(_) => a,
+    if !evaluate(nodes, symbols, regions, ws, out, n + 1) {
+        return false;
     }
+    values::cast(nodes, ws, n)
 }
 
-// A Deref: what its target points at.
+// A Deref: what its target points at. A Cast to a pointer is not evaluated, what is under it is.
 fn deref(
     nodes: &[u8],
     symbols: &[u8],
     regions: &[u8],
     ws: &mut [u8],
     out: &mut [u8],
-    how: How,
     n: usize,
-    at: Counts,
-) -> Evaluated
-    requires { ⌜ Ready (given (now nodes) (now symbols) (now regions) how) (now ws) at ⌝ }
+) -> bool
+    requires { ⌜ ReadyIn (given (now nodes) (now symbols) (now regions)) (now ws) ⌝ }
     requires { ⌜ Fine (now nodes) n ⌝ }
     requires { ⌜ kindOf (now nodes) n ≡ 9 ⌝ }
-    ensures { λ r. ⌜ Evals (given (now (nodes .entry)) (now (symbols .entry)) (now (regions .entry)) how) n (now (ws .entry)) (now (out .entry)) at r (now (ws .exit)) (now (out .exit)) ⌝ }
+    ensures { λ r. ⌜ Evaluates (now (nodes .entry)) (now (symbols .entry)) (now (regions .entry)) n (now (ws .entry)) (now (out .entry)) r (now (ws .exit)) (now (out .exit)) ⌝ }
 {
-    let p = pointer(nodes, symbols, regions, ws, out, how, n + 1, at);
-    let o = p.outcome;
-    match o {
-        Outcome::Is(v) => places::load(regions, ws, out, how, v, p.ty, p.at),
-        Outcome::Ends(s) => results::ends(s.reason, s.number, p.at),
+    let pointer = places::target_of(nodes, ws, n + 1);
+    if !evaluate(nodes, symbols, regions, ws, out, pointer.node) {
+        return false;
     }
+    places::load(regions, ws, out, pointer.ty)
 }
 
 // A Ternary: both arms are evaluated.
@@ -179,37 +159,27 @@ fn ternary(
     regions: &[u8],
     ws: &mut [u8],
     out: &mut [u8],
-    how: How,
     n: usize,
-    at: Counts,
-) -> Evaluated
-    requires { ⌜ Ready (given (now nodes) (now symbols) (now regions) how) (now ws) at ⌝ }
+) -> bool
+    requires { ⌜ ReadyIn (given (now nodes) (now symbols) (now regions)) (now ws) ⌝ }
     requires { ⌜ Fine (now nodes) n ⌝ }
     requires { ⌜ kindOf (now nodes) n ≡ 11 ⌝ }
-    ensures { λ r. ⌜ Evals (given (now (nodes .entry)) (now (symbols .entry)) (now (regions .entry)) how) n (now (ws .entry)) (now (out .entry)) at r (now (ws .exit)) (now (out .exit)) ⌝ }
+    ensures { λ r. ⌜ Evaluates (now (nodes .entry)) (now (symbols .entry)) (now (regions .entry)) n (now (ws .entry)) (now (out .entry)) r (now (ws .exit)) (now (out .exit)) ⌝ }
 {
     let second = places::next(nodes, n + 1);
     let third = places::next(nodes, second);
-    let a = eval(nodes, symbols, regions, ws, out, how, n + 1, at);
-    let o = a.outcome;
-    match o {
-        Outcome::Is(x) => {
-            let b = eval(nodes, symbols, regions, ws, out, how, second, a.at);
-            let p = b.outcome;
-            match p {
-                Outcome::Is(y) => {
-                    let c = eval(nodes, symbols, regions, ws, out, how, third, b.at);
-                    let q = c.outcome;
-                    match q {
-                        Outcome::Is(z) => values::choose(x, y, z, c.at),
-                        Outcome::Ends(_) => c,
-                    }
-                }
-                Outcome::Ends(_) => b,
-            }
-        }
-        Outcome::Ends(_) => a,
+    if !evaluate(nodes, symbols, regions, ws, out, n + 1) {
+        return false;
     }
+    let condition = registers::value(ws, results::RESULT);
+    if !evaluate(nodes, symbols, regions, ws, out, second) {
+        return false;
+    }
+    let then = registers::value(ws, results::RESULT);
+    if !evaluate(nodes, symbols, regions, ws, out, third) {
+        return false;
+    }
+    values::choose(ws, condition, then)
 }
 
 // A Binary, the left operand first.
@@ -219,29 +189,22 @@ fn binary(
     regions: &[u8],
     ws: &mut [u8],
     out: &mut [u8],
-    how: How,
     n: usize,
-    at: Counts,
-) -> Evaluated
-    requires { ⌜ Ready (given (now nodes) (now symbols) (now regions) how) (now ws) at ⌝ }
+) -> bool
+    requires { ⌜ ReadyIn (given (now nodes) (now symbols) (now regions)) (now ws) ⌝ }
     requires { ⌜ Fine (now nodes) n ⌝ }
     requires { ⌜ kindOf (now nodes) n ≡ 12 ⌝ }
-    ensures { λ r. ⌜ Evals (given (now (nodes .entry)) (now (symbols .entry)) (now (regions .entry)) how) n (now (ws .entry)) (now (out .entry)) at r (now (ws .exit)) (now (out .exit)) ⌝ }
+    ensures { λ r. ⌜ Evaluates (now (nodes .entry)) (now (symbols .entry)) (now (regions .entry)) n (now (ws .entry)) (now (out .entry)) r (now (ws .exit)) (now (out .exit)) ⌝ }
 {
     let right = places::next(nodes, n + 1);
-    let a = eval(nodes, symbols, regions, ws, out, how, n + 1, at);
-    let o = a.outcome;
-    match o {
-        Outcome::Is(x) => {
-            let b = eval(nodes, symbols, regions, ws, out, how, right, a.at);
-            let p = b.outcome;
-            match p {
-                Outcome::Is(y) => values::operate(nodes, n, x, y, b.at),
-                Outcome::Ends(_) => b,
-            }
-        }
-        Outcome::Ends(_) => a,
+    if !evaluate(nodes, symbols, regions, ws, out, n + 1) {
+        return false;
     }
+    let l = registers::value(ws, results::RESULT);
+    if !evaluate(nodes, symbols, regions, ws, out, right) {
+        return false;
+    }
+    values::operate(nodes, ws, n, l)
 }
 
 // An Assign as an expression is executed: its value is what it wrote to a variable.
@@ -251,79 +214,72 @@ fn assigned(
     regions: &[u8],
     ws: &mut [u8],
     out: &mut [u8],
-    how: How,
     n: usize,
-    at: Counts,
-) -> Evaluated
-    requires { ⌜ Ready (given (now nodes) (now symbols) (now regions) how) (now ws) at ⌝ }
+) -> bool
+    requires { ⌜ ReadyIn (given (now nodes) (now symbols) (now regions)) (now ws) ⌝ }
     requires { ⌜ Fine (now nodes) n ⌝ }
     requires { ⌜ kindOf (now nodes) n ≡ 13 ⌝ }
-    ensures { λ r. ⌜ Evals (given (now (nodes .entry)) (now (symbols .entry)) (now (regions .entry)) how) n (now (ws .entry)) (now (out .entry)) at r (now (ws .exit)) (now (out .exit)) ⌝ }
+    ensures { λ r. ⌜ (Evaluates (now (nodes .entry)) (now (symbols .entry)) (now (regions .entry)) n (now (ws .entry)) (now (out .entry)) r (now (ws .exit)) (now (out .exit))) × (Assigns (now (nodes .entry)) (now (symbols .entry)) (now (regions .entry)) n (now (ws .entry)) (now (out .entry)) r (now (ws .exit)) (now (out .exit))) ⌝ }
 {
-    let d = execute(nodes, symbols, regions, ws, out, how, n, at);
-    values::value_of(d)
+    if !assign(nodes, symbols, regions, ws, out, n) {
+        return false;
+    }
+    values::value_of(ws)
 }
 
-// An Assign: the right side is evaluated, unless it is a StructInit, and then the left.
+// An Assign is executed: the right side is evaluated, unless it is a StructInit, and then the left.
 fn assign(
     nodes: &[u8],
     symbols: &[u8],
     regions: &[u8],
     ws: &mut [u8],
     out: &mut [u8],
-    how: How,
     n: usize,
-    at: Counts,
-) -> Executed
-    requires { ⌜ Ready (given (now nodes) (now symbols) (now regions) how) (now ws) at ⌝ }
+) -> bool
+    requires { ⌜ ReadyIn (given (now nodes) (now symbols) (now regions)) (now ws) ⌝ }
     requires { ⌜ Fine (now nodes) n ⌝ }
     requires { ⌜ kindOf (now nodes) n ≡ 13 ⌝ }
-    ensures { λ r. ⌜ Executes (given (now (nodes .entry)) (now (symbols .entry)) (now (regions .entry)) how) n (now (ws .entry)) (now (out .entry)) at r (now (ws .exit)) (now (out .exit)) ⌝ }
+    ensures { λ r. ⌜ Assigns (now (nodes .entry)) (now (symbols .entry)) (now (regions .entry)) n (now (ws .entry)) (now (out .entry)) r (now (ws .exit)) (now (out .exit)) ⌝ }
 {
     let left = n + 1;
     let right = places::next(nodes, left);
     let kind = nodes::kind(nodes, right);
     if kind == 17 {
-        return assign_struct(nodes, symbols, regions, ws, out, how, left, right, at);
+        return assign_struct(nodes, symbols, regions, ws, out, left, right);
     }
-    let b = eval(nodes, symbols, regions, ws, out, how, right, at);
-    let p = b.outcome;
-    match p {
-        Outcome::Is(v) => assign_val(nodes, symbols, regions, ws, out, how, left, v, b.at),
-        Outcome::Ends(s) => results::fails(s.reason, s.number, b.at),
+    if !evaluate(nodes, symbols, regions, ws, out, right) {
+        return false;
     }
+    assign_val(nodes, symbols, regions, ws, out, left)
 }
 
-// A value is assigned to what is at node left.
+// The last result is assigned to what is at node left.
 fn assign_val(
     nodes: &[u8],
     symbols: &[u8],
     regions: &[u8],
     ws: &mut [u8],
     out: &mut [u8],
-    how: How,
     left: usize,
-    v: Val,
-    at: Counts,
-) -> Executed
-    requires { ⌜ Ready (given (now nodes) (now symbols) (now regions) how) (now ws) at ⌝ }
+) -> bool
+    requires { ⌜ ReadyIn (given (now nodes) (now symbols) (now regions)) (now ws) ⌝ }
     requires { ⌜ Fine (now nodes) left ⌝ }
-    ensures { λ r. ⌜ AssignsVal (given (now (nodes .entry)) (now (symbols .entry)) (now (regions .entry)) how) left v (now (ws .entry)) (now (out .entry)) at r (now (ws .exit)) (now (out .exit)) ⌝ }
+    ensures { λ r. ⌜ AssignsVal (now (nodes .entry)) (now (symbols .entry)) (now (regions .entry)) left (resultIn (now (ws .entry))) (now (ws .entry)) (now (out .entry)) r (now (ws .exit)) (now (out .exit)) ⌝ }
 {
+    let v = registers::value(ws, results::RESULT);
     let kind = nodes::kind(nodes, left);
     if kind == 1 {
-        return names::write(nodes, symbols, ws, out, how, left, v, at);
+        return names::write(nodes, symbols, ws, out, left, v);
     }
     if kind != 9 {
-        return results::fails(8, left as u64, at);
+        return results::ends(ws, 8, left as u64);
     }
     let target = left + 1;
-    let p = pointer(nodes, symbols, regions, ws, out, how, target, at);
-    let o = p.outcome;
-    match o {
-        Outcome::Is(u) => places::store(ws, target, u, p.ty, v, p.at),
-        Outcome::Ends(s) => results::fails(s.reason, s.number, p.at),
+    let pointer = places::target_of(nodes, ws, target);
+    if !evaluate(nodes, symbols, regions, ws, out, pointer.node) {
+        return false;
     }
+    places::store(ws, target, pointer.ty, v)
 }
 
 // The StructInit at node right is assigned through the pointer at node left.
@@ -333,67 +289,52 @@ fn assign_struct(
     regions: &[u8],
     ws: &mut [u8],
     out: &mut [u8],
-    how: How,
     left: usize,
     right: usize,
-    at: Counts,
-) -> Executed
-    requires { ⌜ Ready (given (now nodes) (now symbols) (now regions) how) (now ws) at ⌝ }
+) -> bool
+    requires { ⌜ ReadyIn (given (now nodes) (now symbols) (now regions)) (now ws) ⌝ }
     requires { ⌜ Fine (now nodes) left ⌝ }
     requires { ⌜ Fine (now nodes) right ⌝ }
     requires { ⌜ left < right ⌝ }
     requires { ⌜ kindOf (now nodes) right ≡ 17 ⌝ }
-    ensures { λ r. ⌜ AssignsStruct (given (now (nodes .entry)) (now (symbols .entry)) (now (regions .entry)) how) left right (now (ws .entry)) (now (out .entry)) at r (now (ws .exit)) (now (out .exit)) ⌝ }
+    ensures { λ r. ⌜ AssignsStruct (now (nodes .entry)) (now (symbols .entry)) (now (regions .entry)) left right (now (ws .entry)) (now (out .entry)) r (now (ws .exit)) (now (out .exit)) ⌝ }
 {
     let kind = nodes::kind(nodes, left);
     if kind != 9 {
-        return results::fails(4, left as u64, at);
+        return results::ends(ws, 4, left as u64);
     }
     let base = places::base(nodes, left + 1);
-    let a = eval(nodes, symbols, regions, ws, out, how, base, at);
-    let o = a.outcome;
-    match o {
-        Outcome::Is(v) => store_struct(nodes, symbols, regions, ws, out, how, base, right, v, a.at),
-        Outcome::Ends(s) => results::fails(s.reason, s.number, a.at),
+    if !evaluate(nodes, symbols, regions, ws, out, base) {
+        return false;
     }
+    store_struct(nodes, symbols, regions, ws, out, base, right)
 }
 
-// The StructInit at node right is stored to the address that node base gave.
+// The StructInit at node right is stored to the address that is the last result, which node base gave.
 fn store_struct(
     nodes: &[u8],
     symbols: &[u8],
     regions: &[u8],
     ws: &mut [u8],
     out: &mut [u8],
-    how: How,
     base: usize,
     right: usize,
-    v: Val,
-    at: Counts,
-) -> Executed
-    requires { ⌜ Ready (given (now nodes) (now symbols) (now regions) how) (now ws) at ⌝ }
+) -> bool
+    requires { ⌜ ReadyIn (given (now nodes) (now symbols) (now regions)) (now ws) ⌝ }
     requires { ⌜ Fine (now nodes) right ⌝ }
     requires { ⌜ kindOf (now nodes) right ≡ 17 ⌝ }
-    ensures { λ r. ⌜ StoresStruct (given (now (nodes .entry)) (now (symbols .entry)) (now (regions .entry)) how) base right v (now (ws .entry)) (now (out .entry)) at r (now (ws .exit)) (now (out .exit)) ⌝ }
+    ensures { λ r. ⌜ StoresStruct (now (nodes .entry)) (now (symbols .entry)) (now (regions .entry)) base right (resultIn (now (ws .entry))) (now (ws .entry)) (now (out .entry)) r (now (ws .exit)) (now (out .exit)) ⌝ }
 {
+    let v = registers::value(ws, results::RESULT);
     if !v.known {
-        return results::fails(5, base as u64, at);
+        return results::ends(ws, 5, base as u64);
     }
     let first = right + 1;
     let end = places::next(nodes, right);
-    let f = store_fields(
-        nodes,
-        symbols,
-        regions,
-        ws,
-        out,
-        how,
-        first,
-        end,
-        v.number,
-        at,
-    );
-    places::built(nodes, first, end, v.number, f)
+    if !store_fields(nodes, symbols, regions, ws, out, first, end, v.number) {
+        return false;
+    }
+    places::built(nodes, ws, first, end, v.number)
 }
 
 // The fields from node n up to node end, each stored at its offset from an address.
@@ -403,34 +344,26 @@ fn store_fields(
     regions: &[u8],
     ws: &mut [u8],
     out: &mut [u8],
-    how: How,
     n: usize,
     end: usize,
     address: u64,
-    at: Counts,
-) -> Evaluated
-    requires { ⌜ Ready (given (now nodes) (now symbols) (now regions) how) (now ws) at ⌝ }
+) -> bool
+    requires { ⌜ ReadyIn (given (now nodes) (now symbols) (now regions)) (now ws) ⌝ }
     requires { ⌜ FineFields (now nodes) n end ⌝ }
-    ensures { λ r. ⌜ StoresFields (given (now (nodes .entry)) (now (symbols .entry)) (now (regions .entry)) how) n end address (now (ws .entry)) (now (out .entry)) at r (now (ws .exit)) (now (out .exit)) ⌝ }
+    ensures { λ r. ⌜ StoresFields (now (nodes .entry)) (now (symbols .entry)) (now (regions .entry)) n end address (now (ws .entry)) (now (out .entry)) r (now (ws .exit)) (now (out .exit)) ⌝ }
 {
     let mut i = n;
-    let mut a = at;
     while i != end {
         let more = places::next(nodes, i);
-        let r = eval(nodes, symbols, regions, ws, out, how, i + 1, a);
-        let o = r.outcome;
-        let Outcome::Is(v) = o else {
-            return r;
-        };
-        let b = places::store_field(nodes, ws, i, address, v, r.at);
-        let p = b.outcome;
-        let Outcome::Is(_) = p else {
-            return b;
-        };
+        if !evaluate(nodes, symbols, regions, ws, out, i + 1) {
+            return false;
+        }
+        if !places::store_field(nodes, ws, i, address) {
+            return false;
+        }
         i = more;
-        a = b.at;
     }
-    values::unknown(64, true, a)
+    true
 }
 
 // A Call: the arguments are evaluated, the world is asked, and the locals whose address is taken become unknown.
@@ -440,73 +373,55 @@ fn call(
     regions: &[u8],
     ws: &mut [u8],
     out: &mut [u8],
-    how: How,
     n: usize,
-    at: Counts,
-) -> Evaluated
-    requires { ⌜ Ready (given (now nodes) (now symbols) (now regions) how) (now ws) at ⌝ }
+) -> bool
+    requires { ⌜ ReadyIn (given (now nodes) (now symbols) (now regions)) (now ws) ⌝ }
     requires { ⌜ Fine (now nodes) n ⌝ }
     requires { ⌜ kindOf (now nodes) n ≡ 14 ⌝ }
-    ensures { λ r. ⌜ Evals (given (now (nodes .entry)) (now (symbols .entry)) (now (regions .entry)) how) n (now (ws .entry)) (now (out .entry)) at r (now (ws .exit)) (now (out .exit)) ⌝ }
+    ensures { λ r. ⌜ Evaluates (now (nodes .entry)) (now (symbols .entry)) (now (regions .entry)) n (now (ws .entry)) (now (out .entry)) r (now (ws .exit)) (now (out .exit)) ⌝ }
 {
     let mut vals = [0u8; 224];
     let first = places::next(nodes, n + 1);
     let end = places::next(nodes, n);
-    let a = args(
-        nodes,
-        symbols,
-        regions,
-        ws,
-        out,
-        how,
-        &mut vals,
-        first,
-        end,
-        0,
-        at,
-    );
-    let o = a.outcome;
-    match o {
-        Outcome::Is(_) => calls::called(nodes, ws, out, how, &vals, a.count, n, a.at),
-        Outcome::Ends(s) => results::ends(s.reason, s.number, a.at),
+    let a = args(nodes, symbols, regions, ws, out, &mut vals, first, end);
+    if !a.ok {
+        return false;
     }
+    calls::called(nodes, ws, out, &vals, a.count, n)
 }
 
-// The values of the expressions from node n up to node end, in vals from value k on.
+// The values of the expressions from node n up to node end, in vals.
 fn args(
     nodes: &[u8],
     symbols: &[u8],
     regions: &[u8],
     ws: &mut [u8],
     out: &mut [u8],
-    how: How,
     vals: &mut [u8],
     n: usize,
     end: usize,
-    k: usize,
-    at: Counts,
 ) -> Filled
-    requires { ⌜ Ready (given (now nodes) (now symbols) (now regions) how) (now ws) at ⌝ }
-    requires { ⌜ FineArgs (now nodes) n end k ⌝ }
+    requires { ⌜ ReadyIn (given (now nodes) (now symbols) (now regions)) (now ws) ⌝ }
+    requires { ⌜ FineArgs (now nodes) n end 0 ⌝ }
     requires { ⌜ length (now vals) ≡ 224 ⌝ }
-    ensures { λ r. ⌜ EvalsArgs (given (now (nodes .entry)) (now (symbols .entry)) (now (regions .entry)) how) n end k (now (ws .entry)) (now (out .entry)) at r (now (vals .entry)) (now (vals .exit)) (now (ws .exit)) (now (out .exit)) ⌝ }
+    ensures { λ r. ⌜ EvaluatesArgs (now (nodes .entry)) (now (symbols .entry)) (now (regions .entry)) n end 0 (now (ws .entry)) (now (out .entry)) r (now (vals .entry)) (now (vals .exit)) (now (ws .exit)) (now (out .exit)) ⌝ }
 {
     let mut i = n;
-    let mut j = k;
-    let mut a = at;
+    let mut j = 0;
     while i != end {
         let more = places::next(nodes, i);
-        let r = eval(nodes, symbols, regions, ws, out, how, i, a);
-        let o = r.outcome;
-        let Outcome::Is(v) = o else {
-            return results::unfilled(r);
-        };
+        if !evaluate(nodes, symbols, regions, ws, out, i) {
+            return Filled {
+                ok: false,
+                count: 0,
+            };
+        }
+        let v = registers::value(ws, results::RESULT);
         calls::put_val(vals, j, v);
         i = more;
         j += 1;
-        a = r.at;
     }
-    results::filled(j - k, a)
+    Filled { ok: true, count: j }
 }
 
 // An Intrinsic: its arguments are evaluated.
@@ -516,17 +431,15 @@ fn intrinsic(
     regions: &[u8],
     ws: &mut [u8],
     out: &mut [u8],
-    how: How,
     n: usize,
-    at: Counts,
-) -> Evaluated
-    requires { ⌜ Ready (given (now nodes) (now symbols) (now regions) how) (now ws) at ⌝ }
+) -> bool
+    requires { ⌜ ReadyIn (given (now nodes) (now symbols) (now regions)) (now ws) ⌝ }
     requires { ⌜ Fine (now nodes) n ⌝ }
     requires { ⌜ kindOf (now nodes) n ≡ 15 ⌝ }
-    ensures { λ r. ⌜ Evals (given (now (nodes .entry)) (now (symbols .entry)) (now (regions .entry)) how) n (now (ws .entry)) (now (out .entry)) at r (now (ws .exit)) (now (out .exit)) ⌝ }
+    ensures { λ r. ⌜ Evaluates (now (nodes .entry)) (now (symbols .entry)) (now (regions .entry)) n (now (ws .entry)) (now (out .entry)) r (now (ws .exit)) (now (out .exit)) ⌝ }
 {
     let end = places::next(nodes, n);
-    kids(nodes, symbols, regions, ws, out, how, n + 1, end, at)
+    kids(nodes, symbols, regions, ws, out, n + 1, end)
 }
 
 // The expressions from node n up to node end, each evaluated in order.
@@ -536,28 +449,22 @@ fn kids(
     regions: &[u8],
     ws: &mut [u8],
     out: &mut [u8],
-    how: How,
     n: usize,
     end: usize,
-    at: Counts,
-) -> Evaluated
-    requires { ⌜ Ready (given (now nodes) (now symbols) (now regions) how) (now ws) at ⌝ }
+) -> bool
+    requires { ⌜ ReadyIn (given (now nodes) (now symbols) (now regions)) (now ws) ⌝ }
     requires { ⌜ FineKids (now nodes) n end ⌝ }
-    ensures { λ r. ⌜ EvalsKids (given (now (nodes .entry)) (now (symbols .entry)) (now (regions .entry)) how) n end (now (ws .entry)) (now (out .entry)) at r (now (ws .exit)) (now (out .exit)) ⌝ }
+    ensures { λ r. ⌜ EvaluatesKids (now (nodes .entry)) (now (symbols .entry)) (now (regions .entry)) n end (now (ws .entry)) (now (out .entry)) r (now (ws .exit)) (now (out .exit)) ⌝ }
 {
     let mut i = n;
-    let mut a = at;
     while i != end {
         let more = places::next(nodes, i);
-        let r = eval(nodes, symbols, regions, ws, out, how, i, a);
-        let o = r.outcome;
-        let Outcome::Is(_) = o else {
-            return r;
-        };
+        if !evaluate(nodes, symbols, regions, ws, out, i) {
+            return false;
+        }
         i = more;
-        a = r.at;
     }
-    values::unknown(64, true, a)
+    values::unknown(ws, 64, true)
 }
 
 // A Return as an expression: its value.
@@ -567,19 +474,17 @@ fn returned(
     regions: &[u8],
     ws: &mut [u8],
     out: &mut [u8],
-    how: How,
     n: usize,
-    at: Counts,
-) -> Evaluated
-    requires { ⌜ Ready (given (now nodes) (now symbols) (now regions) how) (now ws) at ⌝ }
+) -> bool
+    requires { ⌜ ReadyIn (given (now nodes) (now symbols) (now regions)) (now ws) ⌝ }
     requires { ⌜ Fine (now nodes) n ⌝ }
     requires { ⌜ kindOf (now nodes) n ≡ 16 ⌝ }
-    ensures { λ r. ⌜ Evals (given (now (nodes .entry)) (now (symbols .entry)) (now (regions .entry)) how) n (now (ws .entry)) (now (out .entry)) at r (now (ws .exit)) (now (out .exit)) ⌝ }
+    ensures { λ r. ⌜ Evaluates (now (nodes .entry)) (now (symbols .entry)) (now (regions .entry)) n (now (ws .entry)) (now (out .entry)) r (now (ws .exit)) (now (out .exit)) ⌝ }
 {
     let end = places::next(nodes, n);
     if end == n + 1 {
-        values::unknown(64, true, at)
+        values::unknown(ws, 64, true)
     } else {
-        eval(nodes, symbols, regions, ws, out, how, n + 1, at)
+        evaluate(nodes, symbols, regions, ws, out, n + 1)
     }
 }

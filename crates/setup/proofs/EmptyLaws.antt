@@ -1,4 +1,4 @@
--- The variables and the note cleared, whatever the workspace held. Assumes nothing.
+-- The variables, the note and the registers cleared, whatever the workspace held. Assumes nothing.
 use mathlib.Core.Path.{_≡_, sym, ap, subst, _∙_}
 use mathlib.Core.List.{List, []}
 use mathlib.Core.Option.{none}
@@ -8,7 +8,7 @@ use lib.ListN.{length, drop, replicate, length-replicate, length-drop}
 use lib.Seq.{length-take-le}
 use borrow.Rule.Slice.PartMut.{putMid, midOf, same-len-mid, drop-put}
 use Rattle.layout.proofs.StoreLaws.{mid-put}
-use Rattle.workspace.specs.Parts.{part, workspaceSize, memorySize, framePlace, frameSize, noteSize, tablesPlace, memoryPart, framePart, notePart, tables}
+use Rattle.workspace.specs.Parts.{part, workspaceSize, memorySize, framePlace, frameSize, noteSize, registersSize, tablesPlace, memoryPart, framePart, notePart, tables}
 use Rattle.workspace.specs.Variables.{variablesIn}
 use Rattle.workspace.specs.Note.{pendingIn}
 use Rattle.workspace.specs.View.{view}
@@ -17,7 +17,7 @@ use Rattle.workspace.proofs.ClearLaws.{Zeros, zeros-replicate, zeros-take, zero
 use Rattle.setup.specs.Post.{Empties}
 
 abbrev lent : ℕ
-lent = frameSize + noteSize
+lent = frameSize + noteSize + registersSize
 
 pub empties : (w s : List ℕ) → workspaceSize ≤ length w → s ≡ replicate (length (midOf framePlace lent w)) 0 → Empties w (putMid framePlace lent w s)
 unfolding view memoryPart framePart notePart tables

@@ -1,19 +1,18 @@
--- The index of blocks copied out of the workspace, and the walk of a routine that has none. Assumes nothing.
-use mathlib.Core.Path.{_≡_, refl, sym, ap, _∙_, subst}
-use mathlib.Core.List.{List, [], _∷_, _++_}
+-- The index of blocks read where it lies in the workspace, and the walk of a routine that has none. Assumes nothing.
+use mathlib.Core.Path.{_≡_, refl, sym, ap, subst}
+use mathlib.Core.List.{List, [], _∷_}
 use mathlib.Core.Option.{none, some}
-use Prim.Native.Nat.{ℕ, _+_, _*_, _≤_}
+use Prim.Native.Nat.{ℕ, _+_, _<_}
 use native.Mathlib.Omega.{arith}
-use lib.ListN.{length, take, drop, length-drop, length-append, getElem?}
-use lib.Seq.{take-take, take-append-le, drop-append-le, length-take-le}
-use Rattle.layout.specs.Number.{num, numberAt}
+use lib.ListN.{take, drop, getElem?}
 use Rattle.files.specs.Program.{Program, Block}
 use Rattle.definition.specs.Act.{done, _>>=_}
 use Rattle.definition.specs.Evaluate.{Env}
 use Rattle.definition.specs.Statements as statements
 use Rattle.definition.specs.Walk as walk
-use Rattle.index.specs.Blocks.{BlocksIndexed}
-use Rattle.workspace.specs.Parts.{workspaceSize, tablesPlace, blocksPlace, blocksSize, tables, blocksPart}
+use Rattle.index.specs.declared.blocks.Place.{Place}
+use Rattle.index.specs.Blocks.{BlockTold, Placed}
+use Rattle.workspace.specs.Parts.{tablesPlace, blocksPlace, blocksSize, tables, blocksPart}
 use Rattle.workspace.proofs.LendLaws.{blocks-lent}
 use Rattle.hosting.specs.declared.Counts.{Counts}
 use Rattle.hosting.specs.declared.Facts.{Facts}
@@ -26,37 +25,19 @@ use Rattle.hosting.proofs.Running.{acts, done-runs}
 use Rattle.walk.specs.Post.{walkOn, WalksFrom}
 use Rattle.walk.proofs.WalkLaws.{block-found-at, block-missing, finish}
 
--- ---- an index with something behind it
+-- ---- the index where it lies
 
-front-number : (xs ys : List ℕ) (i k : ℕ) → i + k ≤ length xs → numberAt (xs ++ ys) i k ≡ numberAt xs i k
-unfolding numberAt
-front-number xs ys i k h = ap num (ap (take k) (drop-append-le i xs ys (omega arith)) ∙ take-append-le k (drop i xs) ys (rw length-drop (omega arith)))
+abbrev lent : List ℕ → List ℕ
+lent w = take blocksSize (drop (tablesPlace + blocksPlace) w)
 
-front-indexed : {b xs : List ℕ} (ys : List ℕ) {n : ℕ} → BlocksIndexed b xs n → BlocksIndexed b (xs ++ ys) n
-front-indexed {xs = xs} ys all = record {
-  blocks = all .blocks;
-  full = all .full;
-  room = omega (arith, all .room, length-append xs ys);
-  starts = λ k h. front-number xs ys (k * 4) 2 (omega (arith, all .room, h)) ∙ all .starts k h;
-  firsts = λ k h. front-number xs ys (k * 4 + 2) 2 (omega (arith, all .room, h)) ∙ all .firsts k h;
-}
+pub index-told : (w : List ℕ) {k : ℕ} → BlockTold (blocksPart (tables w)) k → BlockTold (lent w) k
+index-told w {k} h = subst (λ (p : List ℕ). BlockTold p k) (sym (blocks-lent w)) h
 
-pub index-inside : (w : List ℕ) → workspaceSize ≤ length w → blocksSize ≤ length (take blocksSize (drop (tablesPlace + blocksPlace) w))
-index-inside w room = omega (arith, length-take-le blocksSize (drop (tablesPlace + blocksPlace) w) (rw length-drop (omega arith)))
+pub index-placed : (w : List ℕ) {k : ℕ} {r : Place} → Placed (lent w) k r → Placed (blocksPart (tables w)) k r
+index-placed w {k} {r} h = subst (λ (p : List ℕ). Placed p k r) (blocks-lent w) h
 
-abbrev part-of : List ℕ → List ℕ
-part-of w = take blocksSize (take blocksSize (drop (tablesPlace + blocksPlace) w))
-
-pub index-copied : {nodes ss blocks part : List ℕ} (w ys : List ℕ) {count : ℕ} → part ≡ take blocksSize (take blocksSize (drop (tablesPlace + blocksPlace) w)) ++ ys
-    → Rooted nodes ss blocks (blocksPart (tables w)) count → Rooted nodes ss blocks part count
-index-copied {nodes} {ss} {blocks} w ys {count} e r =
-    let same : part-of w ++ ys ≡ blocksPart (tables w) ++ ys = ap (λ (x : List ℕ). x ++ ys) (take-take blocksSize blocksSize (drop (tablesPlace + blocksPlace) w) (omega arith) ∙ blocks-lent w) in
-    record {
-      indexed = subst (λ (p : List ℕ). BlocksIndexed blocks p count) (sym (e ∙ same)) (front-indexed ys (r .indexed));
-      dealt = r .dealt;
-      roots = r .roots;
-      ends = r .ends;
-    }
+pub index-room : {nodes ss blocks part : List ℕ} {count k : ℕ} → Rooted nodes ss blocks part count → k < count → BlockTold part k
+index-room all l = record { room = omega (arith, all .indexed .room, l) }
 
 -- ---- a routine with no block, and one with some
 

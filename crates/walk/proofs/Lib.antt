@@ -1,12 +1,5 @@
-pub mod StopLaws
-pub mod Running
-pub mod SortLaws
-pub mod StepLaws
-pub mod OutcomeLaws
-pub mod StatementLaws
-pub mod LeadLaws
-pub mod TerminatorLaws
 pub mod UnitLaws
+pub mod Spending
 pub mod Unpaid
 pub mod WalkLaws
 pub mod IndexLaws

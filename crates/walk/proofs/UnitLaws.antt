@@ -18,6 +18,7 @@ use Rattle.definition.specs.Walk as walk
 use Rattle.index.specs.declared.blocks.Place.{Place}
 use Rattle.index.specs.Blocks.{Placed}
 use Rattle.index.proofs.BlockPlaces.{listed-length}
+use Rattle.workspace.specs.Parts.{tables}
 use Rattle.hosting.specs.declared.Counts.{Counts}
 use Rattle.hosting.specs.declared.Tally.{Tally}
 use Rattle.hosting.specs.declared.Facts.{Facts}
@@ -29,19 +30,21 @@ use Rattle.hosting.specs.Ending.{Ending, ended, short}
 use Rattle.hosting.specs.Runs.{Kept, Runs}
 use Rattle.hosting.specs.Routine.{Rooted}
 use Rattle.hosting.specs.Walking.{stopEnd}
-use Rattle.hosting.proofs.Running.{goes, halts, acts, done-runs}
+use Rattle.hosting.proofs.Running.{kept-on, goes, halts, acts, done-runs}
 use Rattle.hosting.proofs.Keeping.{kept-ready}
-use Rattle.walk.specs.declared.Spot.{Spot}
-use Rattle.walk.specs.declared.Next.{Next}
-use Rattle.walk.specs.declared.Next.the-variants.{Stops, Goes}
-use Rattle.walk.specs.declared.Moved.{Moved}
-use Rattle.walk.specs.declared.statements.Halt.{Halt}
-use Rattle.walk.specs.declared.statements.Halt.the-variants.{Not, With}
-use Rattle.walk.specs.declared.statements.Stepped.{Stepped}
-use Rattle.walk.specs.Endings.{haltEnd, someEnd, stopsEnd}
-use Rattle.walk.specs.Placing.{Placing, Here, PlacedAt}
+use Rattle.statements.specs.declared.terminators.Spot.{Spot}
+use Rattle.statements.specs.declared.terminators.Next.{Next}
+use Rattle.statements.specs.declared.terminators.Next.the-variants.{Stops, Goes}
+use Rattle.statements.specs.declared.terminators.Moved.{Moved}
+use Rattle.statements.specs.declared.statements.Halt.{Halt}
+use Rattle.statements.specs.declared.statements.Halt.the-variants.{Not, With}
+use Rattle.statements.specs.declared.statements.Stepped.{Stepped}
+use Rattle.statements.specs.Endings.{haltEnd, someEnd, stopsEnd, nextEnd}
+use Rattle.statements.specs.Placing.{Placing}
+use Rattle.walk.specs.Spots.{Here, PlacedAt}
 use Rattle.walk.specs.Units.{paidCounts}
-use Rattle.walk.specs.Post.{RunsStatement, blockOf, Outside, Terminates, Stays, Settles, RunsOn, UnitOf}
+use Rattle.statements.specs.Post.{RunsStatement, blockOf, Outside, Terminates}
+use Rattle.walk.specs.Post.{Stays, Settles, RunsOn, UnitOf}
 
 -- ---- before a statement of a block
 
@@ -82,15 +85,18 @@ statement-inside all h = omega (arith, all .dealt .dealt, h .below)
 pub on-ready : {g : Given} {ss : List ℕ} {f : Facts} {b k : ℕ} {w₀ o₀ w o : List ℕ} {a₀ : Counts} {r : Stepped} → RunsStatement g ss f b k w₀ o₀ a₀ r w o → r .halt ≡ Not → Ready g w (r .at)
 on-ready {g} {w = w} {r = r} x e = subst (λ (h : Halt). Kept (haltEnd 0 h) (Ready g w (r .at))) e (x .ready)
 
+on-tables : {g : Given} {ss : List ℕ} {f : Facts} {b k : ℕ} {w₀ o₀ w o : List ℕ} {a₀ : Counts} {r : Stepped} → RunsStatement g ss f b k w₀ o₀ a₀ r w o → r .halt ≡ Not → tables w ≡ tables w₀
+on-tables {w₀ = w₀} {w = w} x e = subst (λ (h : Halt). Kept (haltEnd 0 h) (tables w ≡ tables w₀)) e (x .tables)
+
 stopped-runs : {g : Given} {m : Scene → Act (Option statements.Stop)} (f : Scene → Option statements.Stop → Act walk.Next) {w₀ o₀ w o : List ℕ} {a₀ a : Counts} (e : Ending statements.Stop)
     → ((x : Scene) (s : statements.Stop) → f x (some s) ≡ done (walk.stops s)) → Runs g m w₀ o₀ a₀ (someEnd e) w o a → Runs g (λ x. m x >>= f x) w₀ o₀ a₀ (stopsEnd e) w o a
 stopped-runs f (ended s) h r = goes f r (acts (λ x d. h x s) (done-runs (λ x. walk.stops s) (λ x d. refl) (r .ready)))
 stopped-runs f (short y) h r = halts f y r
 
-stopped-ready : (F : Type 0) (e : Ending statements.Stop) → Kept (someEnd e) F → Kept (stopsEnd e) F
-stopped-ready F (ended s) h = h
-stopped-ready F (short none) h = tt
-stopped-ready F (short (some y)) h = h
+stopped-kept : (F : Type 0) (e : Ending statements.Stop) → Kept (someEnd e) F → Kept (stopsEnd e) F
+stopped-kept F (ended s) h = h
+stopped-kept F (short none) h = tt
+stopped-kept F (short (some y)) h = h
 
 module _ {g : Given} {ss blocks : List ℕ} {f : Facts} {p : Place} {b k : ℕ} {w₀ o₀ w o : List ℕ} {a₀ : Counts} {r : Stepped} (ran : RunsStatement g ss f b (p .first + k) w₀ o₀ a₀ r w o) where
   pub stops-on : {stop : Stop} → r .halt ≡ With stop → RunsOn g ss blocks f p b k w₀ o₀ a₀ (record { next = Stops stop; at = r .at }) w o
@@ -98,7 +104,8 @@ module _ {g : Given} {ss blocks : List ℕ} {f : Facts} {p : Place} {b k : ℕ} 
     runs = λ P named limit.
         stopped-runs (λ x. walk.onward (x .env) b (blockOf (g .nodes) ss blocks p) k) (stopEnd limit stop) (λ x s. refl)
         (subst (λ (h : Halt). Runs g (λ x. statements.runStatement P (x .env) b (statementAt (g .nodes) ss (p .first + k))) w₀ o₀ a₀ (haltEnd limit h) w o (r .at)) e (ran .runs P named limit));
-    ready = stopped-ready (Ready g w (r .at)) (stopEnd 0 stop) (subst (λ (h : Halt). Kept (haltEnd 0 h) (Ready g w (r .at))) e (ran .ready));
+    ready = stopped-kept (Ready g w (r .at)) (stopEnd 0 stop) (subst (λ (h : Halt). Kept (haltEnd 0 h) (Ready g w (r .at))) e (ran .ready));
+    tables = stopped-kept (tables w ≡ tables w₀) (stopEnd 0 stop) (subst (λ (h : Halt). Kept (haltEnd 0 h) (tables w ≡ tables w₀)) e (ran .tables));
     stays = tt;
   }
 
@@ -109,6 +116,7 @@ module _ {g : Given} {ss blocks : List ℕ} {f : Facts} {p : Place} {b k : ℕ} 
         (subst (λ (h : Halt). Runs g (λ x. statements.runStatement P (x .env) b (statementAt (g .nodes) ss (p .first + k))) w₀ o₀ a₀ (haltEnd limit h) w o (r .at)) e (ran .runs P named limit))
         (acts (λ x h. ap (walk.settle (x .env) b (blockOf (g .nodes) ss blocks p)) (sym (add-one k))) (s .runs limit));
     ready = s .runs 0 .ready;
+    tables = kept-on (nextEnd 0 (q .next)) (λ t. t ∙ on-tables ran e) (s .runs 0 .tables);
     stays = s .stays;
   }
 
@@ -126,6 +134,7 @@ module _ {g : Given} {ss blocks : List ℕ} {f : Facts} {p : Place} {s : Spot} {
   unit-runs e q = record {
     runs = λ P named limit. acts (λ x h. ap (actBy P (x .env) (g .nodes) ss blocks p (s .block) (s .statement)) e) (q .runs P named limit);
     ready = q .ready;
+    tables = q .tables;
     stays = q .stays;
   }
 
@@ -133,6 +142,7 @@ module _ {g : Given} {ss blocks : List ℕ} {f : Facts} {p : Place} {s : Spot} {
   unit-settles e q = record {
     runs = λ P named limit. acts (λ x h. ap (actBy P (x .env) (g .nodes) ss blocks p (s .block) (s .statement)) e) (q .runs limit);
     ready = q .runs 0 .ready;
+    tables = q .runs 0 .tables;
     stays = q .stays;
   }
 

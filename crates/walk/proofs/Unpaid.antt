@@ -70,13 +70,15 @@ module _ {A : Type 0} {F : Why → Type 0} {Q : A → Type 0} {g : Given} {m : S
   pub units-kept : {o₀ w o : List ℕ} {a₀ a : Counts} (e : Ending A) → Runs g m w₀ o₀ a₀ e w o a → Runs g m w₀ o₀ a₀ e w o (withUnits (a₀ .tally) a)
   units-kept {o₀} {w} {o} {a₀} {a} (ended v) r = record {
     ready = kept-ready refl (r .ready .fit) (r .ready);
-    ran = λ x h. let u = r .ran x h in record { came = u .came ∙ ap (λ (s : Held). (gave v, s)) (units-same o₀ w o a₀ a x h (u .came)); meant = u .meant };
+    came = λ x h. r .came x h ∙ ap (λ (s : Held). (gave v, s)) (units-same o₀ w o a₀ a x h (r .came x h));
+    tables = r .tables;
   }
   units-kept {o₀} {w} {o} {a₀} {a} (short (some y)) r = record {
     ready = kept-ready refl (r .ready .fit) (r .ready);
-    ran = λ x h. let u = r .ran x h in record { came = u .came ∙ ap (λ (s : Held). (stopped y, s)) (units-same o₀ w o a₀ a x h (u .came)); meant = u .meant };
+    came = λ x h. r .came x h ∙ ap (λ (s : Held). (stopped y, s)) (units-same o₀ w o a₀ a x h (r .came x h));
+    tables = r .tables;
   }
-  units-kept (short none) r = record { ready = tt; ran = λ x h. record { came = r .ran x h .came; meant = tt } }
+  units-kept (short none) r = record { ready = tt; came = r .came; tables = tt }
 
 -- how a call is followed takes no unit
 pub quiet-follow : (left name address : ℕ) (vs : List Val) → Quiet (followAt left name address vs)

@@ -3,7 +3,7 @@ use mathlib.Core.Path.{_≡_, refl, sym, ap, ap₂, _∙_, subst}
 use mathlib.Core.Bool.{Bool, true, false, not}
 use mathlib.Core.List.{List}
 use mathlib.Core.Option.{Option, none, some}
-use Prim.Native.Nat.{ℕ, zero, suc, _+_, _-_, _≤_, _<_, _^_}
+use Prim.Native.Nat.{ℕ, zero, suc, _+_, _≤_, _<_, _^_}
 use native.Mathlib.Omega.{arith}
 use lib.ListN.{getElem?}
 use Rattle.value.specs.declared.Val.{Val}
@@ -19,7 +19,7 @@ use Rattle.definition.proofs.Units.{Unpaid, OwnNext, UnitIs, unit-is}
 use Rattle.index.specs.declared.blocks.Place.{Place}
 use Rattle.index.specs.Blocks.{blockStart, blockFirst, Placed}
 use Rattle.index.proofs.BlockPlaces.{block-there, block-none, listed-at}
-use Rattle.workspace.specs.Parts.{tables}
+use Rattle.workspace.specs.Parts.{tables, blocksPart}
 use Rattle.hosting.specs.declared.Counts.{Counts}
 use Rattle.hosting.specs.declared.Tally.{Tally}
 use Rattle.hosting.specs.declared.Facts.{Facts}
@@ -33,16 +33,17 @@ use Rattle.hosting.specs.Routine.{Rooted, Told}
 use Rattle.hosting.specs.Walking.{stopEnd}
 use Rattle.hosting.proofs.Running.{goes, halts, acts, assoc, told, done-runs}
 use Rattle.hosting.proofs.Keeping.{kept-ready}
-use Rattle.walk.specs.declared.Spot.{Spot}
-use Rattle.walk.specs.declared.Next.{Next}
-use Rattle.walk.specs.declared.Next.the-variants.{Stops, Goes}
-use Rattle.walk.specs.declared.Moved.{Moved}
-use Rattle.walk.specs.Endings.{stopsEnd, placeOf, nextEnd}
-use Rattle.walk.specs.Sorts.{Named}
-use Rattle.walk.specs.Placing.{PlacedAt}
+use Rattle.statements.specs.declared.terminators.Spot.{Spot}
+use Rattle.statements.specs.declared.terminators.Next.{Next}
+use Rattle.statements.specs.declared.terminators.Next.the-variants.{Stops, Goes}
+use Rattle.statements.specs.declared.terminators.Moved.{Moved}
+use Rattle.statements.specs.Endings.{stopsEnd, placeOf, nextEnd}
+use Rattle.statements.specs.Sorts.{Named}
+use Rattle.walk.specs.Spots.{PlacedAt}
 use Rattle.walk.specs.Units.{Balanced, paidCounts, withUnits}
-use Rattle.walk.specs.Post.{blockOf, Stays, unitAct, UnitOf, walkOn, TurnsTo, Turns, WalksFrom}
-use Rattle.walk.proofs.Running.{spend-runs}
+use Rattle.statements.specs.Post.{blockOf}
+use Rattle.walk.specs.Post.{Stays, unitAct, UnitOf, walkOn, TurnsTo, Turns, WalksFrom}
+use Rattle.walk.proofs.Spending.{spend-runs}
 use Rattle.walk.proofs.Unpaid.{units-kept, quiet-follow}
 
 -- ---- what a unit buys in the definition
@@ -183,16 +184,17 @@ module _ (g : Given) {ss blocks part : List ℕ} (f : Facts) {s : Spot} {p : Pla
   module _ {w₀ o₀ w o : List ℕ} {a₀ a : Counts} (bal : Balanced (a₀ .tally)) (some : 0 < a₀ .tally .left) where
     turns-to : (n : Next)
         → ((P : Program) → Named f P → (limit : ℕ) → Runs g (λ x. unitAct P (x .env) (g .nodes) ss blocks p s) w₀ o₀ (paidCounts (not (s .inside)) a₀) (nextEnd limit n) w o a)
-        → Kept (nextEnd 0 n) (Ready g w a) → Stays blocks p (s .block) n → TurnsTo g ss blocks f s w₀ o₀ a₀ n w o (withUnits (paidIn s a₀) a)
-    turns-to (Stops stop) run rd st = λ P told limit.
+        → Kept (nextEnd 0 n) (Ready g w a) → Kept (nextEnd 0 n) (tables w ≡ tables w₀) → Stays blocks p (s .block) n → TurnsTo g ss blocks f s w₀ o₀ a₀ n w o (withUnits (paidIn s a₀) a)
+    turns-to (Stops stop) run rd same st = λ P told limit.
         walk-stops P limit (placeOf s) (λ x. unitAct P (x .env) (g .nodes) ss blocks p s) w₀ o₀ a₀ (paidIn s a₀ .left) (paid-left (a₀ .tally .left) (not (s .inside)) (a₀ .tally) some) (λ x h. unit-there P (x .env) told)
         (stopEnd limit stop) (units-kept w₀ (unit-quiet P told w₀) (stopsEnd (stopEnd limit stop)) (run P (names-told told) limit))
-    turns-to (Goes q) run rd st = (
+    turns-to (Goes q) run rd same st = (
       record {
         ready = kept-ready refl (rd .fit) rd;
         placed = next-placed st;
         balanced = record { fits = paid-fits (a₀ .tally .left) (not (s .inside)) (a₀ .tally) some (bal .fits) .fits };
         less = omega (arith, paid-left (a₀ .tally .left) (not (s .inside)) (a₀ .tally) some);
+        tables = same;
       },
       λ P told limit e w′ o′ a′ r.
           walk-goes P limit (placeOf s) (λ x. unitAct P (x .env) (g .nodes) ss blocks p s) w₀ o₀ a₀ (paidIn s a₀ .left) (paid-left (a₀ .tally .left) (not (s .inside)) (a₀ .tally) some) (λ x h. unit-there P (x .env) told)
@@ -207,21 +209,23 @@ turned g {ss} {blocks} {part} {f} {s} {p} {w₀} {o₀} {w} {o} {a₀} {paid} {a
     let v = subst (λ (c : Counts). UnitOf g ss blocks f p s w₀ o₀ c m w o) e u in
     record {
       turns = subst (λ (c : Counts). TurnsTo g ss blocks f s w₀ o₀ a₀ (m .next) w o c) (sym (r ∙ ap (λ (c : Counts). withUnits (c .tally) (m .at)) e))
-          (turns-to g f all is l at bal units (m .next) (v .runs) (v .ready) (v .stays));
+          (turns-to g f all is l at bal units (m .next) (v .runs) (v .ready) (v .tables) (v .stays));
     }
 
 -- ---- the walk so far: what is left to do is the walk from here
 
 pub record Left (g : Given) (ss blocks : List ℕ) (f : Facts) (w₀ o₀ : List ℕ) (a₀ : Counts) (s : Spot) (a : Counts) (w o : List ℕ) : Type 0 where
   pub ready : Ready g w a
+  pub rooted : Rooted (g .nodes) ss blocks (blocksPart (tables w)) (f .blocks)
   pub placed : PlacedAt blocks (f .blocks) s
   pub balanced : Balanced (a .tally)
   pub rest : (P : Program) → Told (g .nodes) ss blocks f P → (limit : ℕ) (e : Ending statements.Stop) (w′ o′ : List ℕ) (a′ : Counts)
       → Runs g (λ x. walkOn P (x .env) limit (a .tally .left) (placeOf s)) w o a e w′ o′ a′ → Runs g (λ x. walkOn P (x .env) limit (a₀ .tally .left) (walk.before 0)) w₀ o₀ a₀ e w′ o′ a′
 
-pub begins : {g : Given} {ss blocks : List ℕ} {f : Facts} {w o : List ℕ} {a : Counts} → Ready g w a → Balanced (a .tally) → Left g ss blocks f w o a (record { block = 0; statement = 0; inside = false }) a w o
-begins r b = record {
+pub begins : {g : Given} {ss blocks : List ℕ} {f : Facts} {w o : List ℕ} {a : Counts} → Ready g w a → Rooted (g .nodes) ss blocks (blocksPart (tables w)) (f .blocks) → Balanced (a .tally) → Left g ss blocks f w o a (record { block = 0; statement = 0; inside = false }) a w o
+begins r all b = record {
   ready = r;
+  rooted = all;
   placed = record { block = λ e. absurd (never e); here = λ e. absurd (never e) };
   balanced = b;
   rest = λ P told limit e w′ o′ a′ q. q;
@@ -238,6 +242,7 @@ module _ {g : Given} {ss blocks : List ℕ} {f : Facts} {w₀ o₀ : List ℕ} {
     pub goes-on : {q : Spot} → r .next ≡ Goes q → Left g ss blocks f w₀ o₀ a₀ q (r .at) w′ o′
     goes-on e = record {
       ready = gone e .0 .ready;
+      rooted = subst (λ (t : List ℕ). Rooted (g .nodes) ss blocks (blocksPart t) (f .blocks)) (sym (gone e .0 .tables)) (so .rooted);
       placed = gone e .0 .placed;
       balanced = gone e .0 .balanced;
       rest = λ P told limit d w″ o″ a″ q. so .rest P told limit d w″ o″ a″ (gone e .1 P told limit d w″ o″ a″ q);
@@ -251,40 +256,39 @@ module _ {g : Given} {ss blocks : List ℕ} {f : Facts} {w₀ o₀ : List ℕ} {
       runs = λ P told limit. so .rest P told limit (stopEnd limit stop) w′ o′ (r .at) (subst (λ (n : Next). TurnsTo g ss blocks f s w o a n w′ o′ (r .at)) e (turn .turns) P told limit);
     }
 
-  module _ {part : List ℕ} (all : Rooted (g .nodes) ss blocks part (f .blocks)) where
-    -- no unit is left for a block that is there
-    pub stops-spent : s .block < f .blocks → a .tally .left ≡ 0 → WalksFrom g ss blocks f w₀ o₀ a₀ (record { stop = Steps; at = a }) w o
-    unfolding _>>=_
-    stops-spent l z = record {
-      runs = λ P told limit.
-          so .rest P told limit (ended (statements.Steps limit)) w o a
-          (acts (λ x h. ap (λ (n : ℕ). walkOn P (x .env) limit n (placeOf s)) z ∙ ap (λ (m : Act walk.Next). m >>= finish limit) (walk-spent P (x .env) (placeOf s) (there P (x .env) told)))
-          (done-runs (λ x. statements.Steps limit) (λ x h. refl) (so .ready)));
-    }
-      where
-        p : Place
-        p = record { start = blockStart blocks (s .block); first = blockFirst blocks (s .block) }
+  -- no unit is left for a block that is there
+  pub stops-spent : s .block < f .blocks → a .tally .left ≡ 0 → WalksFrom g ss blocks f w₀ o₀ a₀ (record { stop = Steps; at = a }) w o
+  unfolding _>>=_
+  stops-spent l z = record {
+    runs = λ P told limit.
+        so .rest P told limit (ended (statements.Steps limit)) w o a
+        (acts (λ x h. ap (λ (n : ℕ). walkOn P (x .env) limit n (placeOf s)) z ∙ ap (λ (m : Act walk.Next). m >>= finish limit) (walk-spent P (x .env) (placeOf s) (there P (x .env) told)))
+        (done-runs (λ x. statements.Steps limit) (λ x h. refl) (so .ready)));
+  }
+    where
+      p : Place
+      p = record { start = blockStart blocks (s .block); first = blockFirst blocks (s .block) }
 
-        there : (P : Program) (E : Env) → Told (g .nodes) ss blocks f P → walk.unit P E (placeOf s) ≡ some (buys P E (g .nodes) ss blocks p (s .block) (s .statement) (s .inside))
-        there P E told =
-            unit-by P E (g .nodes) ss blocks p (s .block) (s .statement) (s .inside)
-            (block-found-at all P told (s .block) l)
-            (so .placed .here)
+      there : (P : Program) (E : Env) → Told (g .nodes) ss blocks f P → walk.unit P E (placeOf s) ≡ some (buys P E (g .nodes) ss blocks p (s .block) (s .statement) (s .inside))
+      there P E told =
+          unit-by P E (g .nodes) ss blocks p (s .block) (s .statement) (s .inside)
+          (block-found-at (so .rooted) P told (s .block) l)
+          (so .placed .here)
 
-    -- there is no such block
-    pub stops-missing : f .blocks ≤ s .block → WalksFrom g ss blocks f w₀ o₀ a₀ (record { stop = NoBlock (s .block); at = a }) w o
-    unfolding _>>=_
-    stops-missing l = record {
-      runs = λ P told limit.
-          so .rest P told limit (ended (statements.NoBlock (s .block))) w o a
-          (acts (λ x h. ap (λ (pl : walk.Place). walkOn P (x .env) limit (a .tally .left) pl) (outside (s .inside) refl)
-          ∙ ap (λ (m : Act walk.Next). m >>= finish limit) (walk-missing P (x .env) (a .tally .left) (walk.before (s .block)) (missing P (x .env) told)))
-          (done-runs (λ x. statements.NoBlock (s .block)) (λ x h. refl) (so .ready)));
-    }
-      where
-        outside : (i : Bool) → s .inside ≡ i → placeBy i (s .block) (s .statement) ≡ walk.before (s .block)
-        outside false e = refl
-        outside true e = absurd (omega (arith, so .placed .block e, l))
+  -- there is no such block
+  pub stops-missing : f .blocks ≤ s .block → WalksFrom g ss blocks f w₀ o₀ a₀ (record { stop = NoBlock (s .block); at = a }) w o
+  unfolding _>>=_
+  stops-missing l = record {
+    runs = λ P told limit.
+        so .rest P told limit (ended (statements.NoBlock (s .block))) w o a
+        (acts (λ x h. ap (λ (pl : walk.Place). walkOn P (x .env) limit (a .tally .left) pl) (outside (s .inside) refl)
+        ∙ ap (λ (m : Act walk.Next). m >>= finish limit) (walk-missing P (x .env) (a .tally .left) (walk.before (s .block)) (missing P (x .env) told)))
+        (done-runs (λ x. statements.NoBlock (s .block)) (λ x h. refl) (so .ready)));
+  }
+    where
+      outside : (i : Bool) → s .inside ≡ i → placeBy i (s .block) (s .statement) ≡ walk.before (s .block)
+      outside false e = refl
+      outside true e = absurd (omega (arith, so .placed .block e, l))
 
-        missing : (P : Program) (E : Env) → Told (g .nodes) ss blocks f P → walk.unit P E (walk.before (s .block)) ≡ none
-        missing P E told = no-unit P E (s .block) (block-missing all P told (s .block) l)
+      missing : (P : Program) (E : Env) → Told (g .nodes) ss blocks f P → walk.unit P E (walk.before (s .block)) ≡ none
+      missing P E told = no-unit P E (s .block) (block-missing (so .rooted) P told (s .block) l)

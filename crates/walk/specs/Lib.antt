@@ -1,9 +1,3 @@
-pub mod Telling
-pub mod Flags
-pub mod Reasons
-pub mod Steps
-pub mod Endings
-pub mod Sorts
-pub mod Placing
+pub mod Spots
 pub mod Units
 pub mod Post

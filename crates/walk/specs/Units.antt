@@ -1,6 +1,6 @@
 -- The units of a walk as the code counts them. Assumes nothing.
 use mathlib.Core.Bool.{Bool}
-use Prim.Native.Nat.{ℕ, _+_, _^_, _<_}
+use Prim.Native.Nat.{_+_, _^_, _<_}
 use Rattle.hosting.specs.declared.Tally.{Tally}
 use Rattle.hosting.specs.declared.Counts.{Counts}
 use Rattle.hosting.specs.Held.{paidTally}
@@ -18,11 +18,4 @@ abbrev pub withUnits : Tally → Counts → Counts
 withUnits t a = record {
   stored = a .stored;
   tally = record { recorded = a .tally .recorded; asked = a .tally .asked; left = t .left; entered = t .entered; steps = t .steps };
-}
-
--- the counts with another cursor of the steps
-abbrev pub withRecorded : ℕ → Counts → Counts
-withRecorded cursor a = record {
-  stored = a .stored;
-  tally = record { recorded = cursor; asked = a .tally .asked; left = a .tally .left; entered = a .tally .entered; steps = a .tally .steps };
 }

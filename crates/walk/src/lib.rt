@@ -1,21 +1,17 @@
 // The walk over a routine's blocks, one unit at a time: a block is entered or a statement run, and the terminator that follows costs nothing.
 ghost use mathlib.Core.Path.{_≡_};
 ghost use mathlib.Core.Bool.{true};
-ghost use Prim.Native.Nat.{_+_, _<_};
-ghost use Rattle.workspace.specs.Parts.{tables, blocksPart};
+ghost use Prim.Native.Nat.{_+_, _<_, _≤_};
+ghost use lib.ListN.{length};
+ghost use Rattle.index.specs.Blocks.{BlockTold, Placed};
+ghost use Rattle.workspace.specs.Parts.{workspaceSize, tables, blocksPart};
 ghost use Rattle.hosting.specs.Scene.{given, Ready};
 ghost use Rattle.hosting.specs.Routine.{Rooted};
 ghost use Rattle.hosting.specs.Walking.{WalksAll};
-ghost use Rattle.walk.specs.Placing.{Placing, PlacedAt, Here};
+ghost use Rattle.statements.specs.Placing.{Placing};
+ghost use Rattle.walk.specs.Spots.{PlacedAt, Here};
 ghost use Rattle.walk.specs.Units.{Balanced, paidCounts, withUnits};
 ghost use Rattle.walk.specs.Post.{Settles, RunsOn, UnitOf, Turns, WalksFrom};
-
-mod maybe;
-mod statements;
-mod steps;
-pub mod stops;
-mod terminators;
-
 use hosting::Counts;
 use hosting::Facts;
 use hosting::How;
@@ -23,24 +19,10 @@ use hosting::Stop;
 use hosting::Tally;
 use hosting::Walked;
 use index::blocks::Place;
-use statements::Halt;
-
-// Where the walk is: about to enter a block, or before a statement of it.
-pub struct Spot {
-    pub block: usize,
-    pub statement: usize,
-    pub inside: bool,
-}
-
-pub enum Next {
-    Stops(Stop),
-    Goes(Spot),
-}
-
-pub struct Moved {
-    pub next: Next,
-    pub at: Counts,
-}
+use statements::statements::Halt;
+use statements::terminators::Moved;
+use statements::terminators::Next;
+use statements::terminators::Spot;
 
 // Before a statement of the block at a place: it is there, or the terminator comes, at no cost.
 fn settle(
@@ -71,7 +53,7 @@ fn settle(
             at,
         };
     }
-    terminators::terminate(
+    statements::terminators::terminate(
         nodes,
         statements,
         blocks,
@@ -106,7 +88,7 @@ fn run_on(
     ensures { λ r. ⌜ RunsOn (given (now (nodes .entry)) (now (symbols .entry)) (now (regions .entry)) how) (now (statements .entry)) (now (blocks .entry)) facts place block k (now (ws .entry)) (now (out .entry)) at r (now (ws .exit)) (now (out .exit)) ⌝ }
 {
     let first = place.first;
-    let s = statements::statement(
+    let s = statements::statements::statement(
         nodes,
         statements,
         symbols,
@@ -242,12 +224,20 @@ fn resumed(at: Counts, units: Tally) -> Counts
     }
 }
 
+// The place of a block, by the index in the workspace.
+fn place_of(ws: &[u8], block: usize) -> Place
+    requires { ⌜ workspaceSize ≤ length (now ws) ⌝ }
+    requires { ⌜ BlockTold (blocksPart (tables (now ws))) block ⌝ }
+    ensures { λ r. ⌜ Placed (blocksPart (tables (now (ws .entry)))) block r ⌝ }
+{
+    index::blocks::block(&ws[workspace::BLOCKS..workspace::END], block)
+}
+
 // One turn of the walk: a unit is spent, and what it buys is done.
 fn turn(
     nodes: &[u8],
     statements: &[u8],
     blocks: &[u8],
-    part: &[u8],
     symbols: &[u8],
     regions: &[u8],
     ws: &mut [u8],
@@ -258,12 +248,12 @@ fn turn(
     at: Counts,
 ) -> Moved
     requires { ⌜ Ready (given (now nodes) (now symbols) (now regions) how) (now ws) at ⌝ }
-    requires { ⌜ Rooted (now nodes) (now statements) (now blocks) (now part) (facts .blocks) ⌝ }
+    requires { ⌜ Rooted (now nodes) (now statements) (now blocks) (blocksPart (tables (now ws))) (facts .blocks) ⌝ }
     requires { ⌜ (PlacedAt (now blocks) (facts .blocks) spot) × (spot .block < facts .blocks) ⌝ }
     requires { ⌜ (Balanced (at .tally)) × (0 < at .tally .left) ⌝ }
     ensures { λ r. ⌜ Turns (given (now (nodes .entry)) (now (symbols .entry)) (now (regions .entry)) how) (now (statements .entry)) (now (blocks .entry)) facts spot (now (ws .entry)) (now (out .entry)) at r (now (ws .exit)) (now (out .exit)) ⌝ }
 {
-    let place = index::blocks::block(part, spot.block);
+    let place = place_of(ws, spot.block);
     let paid = pay(at, !spot.inside);
     let m = unit(
         nodes,
@@ -288,12 +278,11 @@ fn turn(
     }
 }
 
-// The walk from block 0, by an index of the blocks.
+// The walk from block 0.
 fn rounds(
     nodes: &[u8],
     statements: &[u8],
     blocks: &[u8],
-    part: &[u8],
     symbols: &[u8],
     regions: &[u8],
     ws: &mut [u8],
@@ -303,7 +292,7 @@ fn rounds(
     start: Counts,
 ) -> Walked
     requires { ⌜ Ready (given (now nodes) (now symbols) (now regions) how) (now ws) start ⌝ }
-    requires { ⌜ Rooted (now nodes) (now statements) (now blocks) (now part) (facts .blocks) ⌝ }
+    requires { ⌜ Rooted (now nodes) (now statements) (now blocks) (blocksPart (tables (now ws))) (facts .blocks) ⌝ }
     requires { ⌜ Balanced (start .tally) ⌝ }
     ensures { λ r. ⌜ WalksFrom (given (now (nodes .entry)) (now (symbols .entry)) (now (regions .entry)) how) (now (statements .entry)) (now (blocks .entry)) facts (now (ws .entry)) (now (out .entry)) start r (now (ws .exit)) (now (out .exit)) ⌝ }
 {
@@ -325,7 +314,6 @@ fn rounds(
             nodes,
             statements,
             blocks,
-            part,
             symbols,
             regions,
             ws,
@@ -353,10 +341,7 @@ fn rounds(
     }
 }
 
-// The bytes of the index of blocks.
-const INDEX: usize = 10920;
-
-// The index is copied out first: what an evaluation promises of the workspace's tables leaves it out.
+// The routine is walked, if it has a block.
 pub fn walk(
     nodes: &[u8],
     statements: &[u8],
@@ -380,13 +365,10 @@ pub fn walk(
             at,
         };
     }
-    let mut part = [0u8; INDEX];
-    layout::copy(&ws[workspace::BLOCKS..workspace::END], &mut part, INDEX);
     rounds(
         nodes,
         statements,
         blocks,
-        &part,
         symbols,
         regions,
         ws,

@@ -4,6 +4,7 @@ pub mod VariableLaws
 pub mod FrameLaws
 pub mod ViewLaws
 pub mod NoteLaws
+pub mod RegisterLaws
 pub mod CodeLaws
 pub mod TableLaws
 pub mod CopyLaws

@@ -1,7 +1,7 @@
 -- The memory's part lent and given back: what is stored there is stored in the workspace, and all else is as it was. Assumes nothing.
 use mathlib.Core.Path.{_≡_, ap₂, _∙_}
 use mathlib.Core.List.{List}
-use Prim.Native.Nat.{ℕ, _+_, _-_, _≤_}
+use Prim.Native.Nat.{ℕ, _+_, _≤_}
 use native.Mathlib.Omega.{arith}
 use lib.ListN.{length, drop, length-append, length-drop}
 use lib.Seq.{take-at, drop-at, length-take-le}
@@ -11,7 +11,7 @@ use Rattle.memory.specs.Entries.{entries}
 use Rattle.memory.specs.declared.Stored.{Stored}
 use Rattle.memory.specs.declared.Stored.the-variants.{Count, Full}
 use Rattle.memory.specs.Post.{StoresAll}
-use Rattle.workspace.specs.Parts.{part, workspaceSize, memorySize, framePlace, frameSize, notePlace, noteSize, tablesPlace, memoryPart, framePart, notePart, tables}
+use Rattle.workspace.specs.Parts.{part, workspaceSize, memorySize, framePlace, frameSize, notePlace, noteSize, registersPlace, registersSize, tablesPlace, memoryPart, framePart, notePart, registersPart, tables}
 use Rattle.workspace.specs.View.{view, Fit}
 use Rattle.workspace.specs.Post.{StoresCells}
 use Rattle.workspace.proofs.PartLaws.{drop-back, part-back}
@@ -39,6 +39,10 @@ module _ (w s : List ℕ) (room : workspaceSize ≤ length w) (size : length s �
   unfolding notePart
   note-back = part-back notePlace noteSize memorySize w back (omega arith) behind
 
+  registers-back : registersPart back ≡ registersPart w
+  unfolding registersPart
+  registers-back = part-back registersPlace registersSize memorySize w back (omega arith) behind
+
   tables-back : tables back ≡ tables w
   unfolding tables
   tables-back = drop-back tablesPlace memorySize w back (omega arith) behind
@@ -53,8 +57,9 @@ module _ (w s : List ℕ) (room : workspaceSize ≤ length w) (size : length s �
     tables = tables-back;
     fit = record { room = omega (arith, length-back); sorted = rw memory-back (h .sorted); few = rw note-back (fit .few) };
     size = length-back;
+    registers = registers-back;
   }
-  stored-back n address cells fit Full h = (h, length-back)
+  stored-back n address cells fit Full h = (h, length-back, registers-back)
 
 pub stores-cells : (w s : List ℕ) (n address : ℕ) (cells : List Cell) (r : Stored) → Fit w n → length s ≡ length (memoryPart w)
     → StoresAll (stores address cells (entries (memoryPart w) n)) s r → StoresCells w n address cells (putMid 0 memorySize w s) r

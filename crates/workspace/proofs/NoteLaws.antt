@@ -197,6 +197,7 @@ note-twice w vs us i j room h l =
       note = b .note ∙ ap (λ (p : List ℕ). sets p j us) (a .note);
       tables = b .tables ∙ a .tables;
       size = b .size ∙ a .size;
+      registers = b .registers ∙ a .registers;
     }
 
 more-few : (x : ℕ) (p : Option (List ℕ)) → Open p → Few (withName x p)

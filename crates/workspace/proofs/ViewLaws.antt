@@ -1,22 +1,22 @@
 -- What a store in the frame or in the note does to what the workspace stands for: the other parts are as they were. Assumes nothing.
-use mathlib.Core.Path.{_≡_, ap, ap₂, _∙_}
+use mathlib.Core.Path.{_≡_, ap₂, _∙_}
 use mathlib.Core.List.{List}
 use Prim.Native.Nat.{ℕ, _+_, _*_, _≤_, _<_}
 use native.Mathlib.Numerals.{add-one}
 use native.Mathlib.Omega.{arith}
-use lib.ListN.{length, take, drop, length-drop}
+use lib.ListN.{length, drop, length-drop}
 use lib.Seq.{sets, length-sets, length-take-le}
 use Rattle.layout.specs.Number.{putNumber}
 use Rattle.layout.proofs.StoreLaws.{take-sets, drop-sets}
 use Rattle.value.specs.declared.Val.{Val}
 use Rattle.memory.specs.Overlay.{Overlay, Cell, store}
 use Rattle.memory.specs.Entries.{entries}
-use Rattle.workspace.specs.Parts.{workspaceSize, memorySize, framePlace, frameSize, notePlace, noteSize, tablesPlace, memoryPart, framePart, notePart, tables}
+use Rattle.workspace.specs.Parts.{workspaceSize, memorySize, framePlace, frameSize, notePlace, noteSize, registersPlace, registersSize, tablesPlace, memoryPart, framePart, notePart, registersPart, tables}
 use Rattle.workspace.specs.Values.{valBytes, Whole}
 use Rattle.workspace.specs.Variables.{slotSize, nameLimit, variablesIn}
 use Rattle.workspace.specs.Note.{pendingIn, Few}
 use Rattle.workspace.specs.View.{View, view, Fit, Does, Changes, setting}
-use Rattle.workspace.proofs.PartLaws.{part-sets, part-front}
+use Rattle.workspace.proofs.PartLaws.{part-sets, part-above, part-below}
 use Rattle.workspace.proofs.ValueLaws.{length-valBytes}
 use Rattle.workspace.proofs.FrameLaws.{slotBytes, variables-set}
 
@@ -27,6 +27,7 @@ pub record Becomes (w w′ f p : List ℕ) : Type 0 where
   pub note : notePart w′ ≡ p
   pub tables : tables w′ ≡ tables w
   pub size : length w′ ≡ length w
+  pub registers : registersPart w′ ≡ registersPart w
 
 pub length-frame : (w : List ℕ) → workspaceSize ≤ length w → length (framePart w) ≡ frameSize
 unfolding framePart
@@ -38,23 +39,25 @@ length-note w h = length-take-le noteSize (drop notePlace w) (rw length-drop (om
 
 module _ (w vs : List ℕ) (i : ℕ) (room : workspaceSize ≤ length w) where
   pub frame-stored : i + length vs ≤ frameSize → Becomes w (sets w (framePlace + i) vs) (sets (framePart w) i vs) (notePart w)
-  unfolding memoryPart framePart notePart tables
+  unfolding memoryPart framePart notePart registersPart tables
   frame-stored h = record {
     memory = take-sets vs w (framePlace + i) memorySize (omega arith);
     frame = part-sets framePlace frameSize i w vs (omega arith) h;
-    note = ap (take noteSize) (drop-sets vs w (framePlace + i) notePlace (omega arith));
+    note = part-below notePlace noteSize (framePlace + i) w vs (omega arith);
     tables = drop-sets vs w (framePlace + i) tablesPlace (omega arith);
     size = length-sets w (framePlace + i) vs;
+    registers = part-below registersPlace registersSize (framePlace + i) w vs (omega arith);
   }
 
   pub note-stored : i + length vs ≤ noteSize → Becomes w (sets w (notePlace + i) vs) (framePart w) (sets (notePart w) i vs)
-  unfolding memoryPart framePart notePart tables
+  unfolding memoryPart framePart notePart registersPart tables
   note-stored h = record {
     memory = take-sets vs w (notePlace + i) memorySize (omega arith);
-    frame = part-front framePlace frameSize notePlace w (sets w (notePlace + i) vs) (omega arith) (take-sets vs w (notePlace + i) notePlace (omega arith));
+    frame = part-above framePlace frameSize (notePlace + i) w vs (omega arith);
     note = part-sets notePlace noteSize i w vs (omega arith) h;
     tables = drop-sets vs w (notePlace + i) tablesPlace (omega arith);
     size = length-sets w (notePlace + i) vs;
+    registers = part-below registersPlace registersSize (notePlace + i) w vs (omega arith);
   }
 
 -- what is done to the variables and the note is done to the view
@@ -67,11 +70,12 @@ changes w w′ f p F b e few = record {
   tables = b .tables;
   fit = λ n h. record { room = omega (arith, h .room, b .size); sorted = rw (b .memory) (h .sorted); few = rw (b .note) (few (h .few)) };
   size = b .size;
+  registers = b .registers;
 }
 
 -- where so many entries are stored
 pub does : {w w′ : List ℕ} {F : View → View} (n : ℕ) → Fit w n → Changes w F w′ → Does w n F w′ n
-does n h c = record { holds = c .holds n; tables = c .tables; fit = c .fit n h; size = c .size }
+does n h c = record { holds = c .holds n; tables = c .tables; fit = c .fit n h; size = c .size; registers = c .registers }
 
 -- a variable is set, its flag and then its value
 pub variable-set : (w t w′ : List ℕ) (x : ℕ) (v : Val) → workspaceSize ≤ length w → x < nameLimit → Whole v

@@ -3,5 +3,6 @@ pub mod Values
 pub mod Variables
 pub mod Note
 pub mod Types
+pub mod Registers
 pub mod View
 pub mod Post

@@ -41,10 +41,20 @@ framePart w = part framePlace frameSize w
 unfoldable pub notePart : List ℕ → List ℕ
 notePart w = part notePlace noteSize w
 
+abbrev pub registersPlace : ℕ
+registersPlace = notePlace + noteSize
+
+abbrev pub registersSize : ℕ
+registersSize = 144
+
+-- what an evaluation hands on
+unfoldable pub registersPart : List ℕ → List ℕ
+registersPart w = part registersPlace registersSize w
+
 -- ---- what stays
 
 abbrev pub tablesPlace : ℕ
-tablesPlace = notePlace + noteSize
+tablesPlace = registersPlace + registersSize
 
 unfoldable pub tables : List ℕ → List ℕ
 tables w = drop tablesPlace w

@@ -17,9 +17,10 @@ use Rattle.workspace.specs.declared.variables.Slot.{Slot}
 use Rattle.workspace.specs.declared.variables.Slot.the-variants.{Set, Unset}
 use Rattle.workspace.specs.declared.types.Declaration.{Declaration}
 use Rattle.workspace.specs.declared.types.Declaration.the-variants.{As, Nothing}
-use Rattle.workspace.specs.Parts.{tables, symbolsPart, regionsPart, blocksPart}
+use Rattle.workspace.specs.Parts.{registersPart, tables, symbolsPart, regionsPart, blocksPart}
 use Rattle.workspace.specs.Variables.{variableSize, variablesBody}
 use Rattle.workspace.specs.Types.{declaredAt, typeAt, pointeeAt}
+use Rattle.workspace.specs.Registers.{wordCount, wordAt, valueAt}
 use Rattle.workspace.specs.View.{view, fresh, Fit, Does, storing}
 
 abbrev pub slotAs : Option Val → Slot
@@ -43,10 +44,10 @@ pub record PutsVariables (m : Overlay Val) (out : List ℕ) (at : ℕ) (out′ :
   pub bytes : out′ ≡ sets out at (variablesBody m)
   pub place : next ≡ at + length m * variableSize
 
--- cells stored from an address on; or they would be too many entries, and of the workspace only its size is known
+-- cells stored from an address on; or they would be too many entries, and of the workspace only its size and the registers are known
 abbrev pub StoresCells : List ℕ → ℕ → ℕ → List Cell → List ℕ → Stored → Type 0
 StoresCells w n address cells w′ (Count n′) = Does w n (storing address cells) w′ n′
-StoresCells w n address cells w′ Full = (limit < length (stores address cells (view w n .memory))) × (length w′ ≡ length w)
+StoresCells w n address cells w′ Full = (limit < length (stores address cells (view w n .memory))) × (length w′ ≡ length w) × (registersPart w′ ≡ registersPart w)
 
 -- ---- the tables
 
@@ -100,3 +101,26 @@ pub record Cleared (w : List ℕ) : Type 0 where
   pub holds : view w 0 ≡ fresh
   pub fit : Fit w 0
   pub declared : (x : ℕ) → declaredAt (tables w) x ≡ none
+
+-- ---- the registers
+
+-- they alone are changed
+pub record Aside (w w′ : List ℕ) : Type 0 where
+  pub holds : (stored : ℕ) → view w′ stored ≡ view w stored
+  pub fit : (stored : ℕ) → Fit w stored → Fit w′ stored
+  pub size : length w′ ≡ length w
+  pub tables : tables w′ ≡ tables w
+
+-- the word k is x, and the other registers are as they were
+pub record SetsWord (w : List ℕ) (k x : ℕ) (w′ : List ℕ) : Type 0 where
+  pub aside : Aside w w′
+  pub here : wordAt (registersPart w′) k ≡ x
+  pub words : (j : ℕ) → j < wordCount → (j ≡ k → ⊥) → wordAt (registersPart w′) j ≡ wordAt (registersPart w) j
+  pub values : (j : ℕ) → j < 2 → valueAt (registersPart w′) j ≡ valueAt (registersPart w) j
+
+-- the value k is v, the same
+pub record SetsValue (w : List ℕ) (k : ℕ) (v : Val) (w′ : List ℕ) : Type 0 where
+  pub aside : Aside w w′
+  pub here : valueAt (registersPart w′) k ≡ v
+  pub words : (j : ℕ) → j < wordCount → wordAt (registersPart w′) j ≡ wordAt (registersPart w) j
+  pub values : (j : ℕ) → j < 2 → (j ≡ k → ⊥) → valueAt (registersPart w′) j ≡ valueAt (registersPart w) j

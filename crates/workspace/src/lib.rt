@@ -1,4 +1,4 @@
-// The lent workspace while a routine runs: what is written to memory, the variables, the pending note, and tables made once at the start.
+// The lent workspace while a routine runs: what is written to memory, the variables, the pending note, the registers, and tables made once at the start.
 // The functions take the whole workspace, and their contracts speak of what its bytes stand for.
 ghost use mathlib.Core.Path.{_≡_};
 ghost use mathlib.Core.List.{_++_};
@@ -12,6 +12,7 @@ ghost use Rattle.workspace.specs.View.{view, Fit};
 ghost use Rattle.workspace.specs.Post.{StoresCells};
 
 pub mod note;
+pub mod registers;
 pub mod types;
 pub mod variables;
 
@@ -24,8 +25,11 @@ pub const FRAME: usize = memory::PART;
 // The pending note.
 pub const NOTE: usize = FRAME + 8192;
 
+// What an evaluation hands on.
+pub const REGISTERS: usize = NOTE + 40;
+
 // A type's code for each name, and two for each of 512 types.
-pub const DECLARED: usize = NOTE + 40;
+pub const DECLARED: usize = REGISTERS + 144;
 
 pub const TYPES: usize = DECLARED + 512;
 

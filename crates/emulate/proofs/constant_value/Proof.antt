@@ -1,5 +1,4 @@
-use mathlib.Core.Path.{_∙_}
-use Rattle.emulate.proofs.Constancy.{constant-answers, constant-input, constant-20}
+use Rattle.emulate.proofs.Giving.{constant-answers, constant-input, constant-20}
 use borrow.Author.Needs.{needs}
 use Rattle.emulate.proofs.constant_value.Statement.{statement}
 use Rattle.emulate.proofs.constant_value.Tie as tie

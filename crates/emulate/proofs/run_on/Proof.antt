@@ -7,7 +7,7 @@ returns : tie.Need-returns
 returns c = search (needs, answers-22)
 
 put-rest-requires : tie.Need-put-rest-requires
-put-rest-requires c κs = (search needs, (search needs, (search needs, search (needs, is-exact))))
+put-rest-requires c κs = (search needs, (search needs, (search needs, (search needs, search (needs, is-exact)))))
 
 end-of-requires : tie.Need-end-of-requires
 end-of-requires c κs = search (needs, short-enough)

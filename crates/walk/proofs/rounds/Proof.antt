@@ -8,11 +8,11 @@ use Rattle.walk.proofs.rounds.Statement.{statement}
 use Rattle.walk.proofs.rounds.Tie as tie
 
 abbrev Inv-loop : tie.InvT-loop
-Inv-loop nodes statements blocks part symbols regions ws₀ out₀ how facts at₀ spot₀ ws out at spot =
+Inv-loop nodes statements blocks symbols regions ws₀ out₀ how facts at₀ spot₀ ws out at spot =
     (length ws ≡ length ws₀) × ((length out ≡ length out₀) × Left (given nodes symbols regions how) statements blocks facts ws₀ out₀ at₀ spot at ws out)
 
 abbrev μ-loop : tie.MeasureT-loop
-μ-loop nodes statements blocks part symbols regions ws₀ out₀ how facts at₀ spot₀ ws out at spot = at .tally .left
+μ-loop nodes statements blocks symbols regions ws₀ out₀ how facts at₀ spot₀ ws out at spot = at .tally .left
 
 loop-holds : tie.Need-loop-holds Inv-loop μ-loop
 loop-holds c = search (needs, begins)
@@ -29,8 +29,7 @@ returns c = search (needs, stops-spent)
 turn-requires : tie.Need-turn-requires Inv-loop μ-loop
 turn-requires c κs =
     let c₁ = c .before .before .before .before .before .before in
-    let c₂ = c₁ .before .before .before .before .before .before in
-    (c₁ .before .before .loop .inv .1 .1 .ready, (c₂ .before .before .before .before .before .pre .1 .0, ((c₁ .before .before .loop .inv .1 .1 .placed, c .before .before .before .before .before .if1 .taken), (c₁ .before .before .loop .inv .1 .1 .balanced, omega (arith, c .before .before .if2 .left)))))
+    (c₁ .before .before .loop .inv .1 .1 .ready, (c₁ .before .before .loop .inv .1 .1 .rooted, ((c₁ .before .before .loop .inv .1 .1 .placed, c .before .before .before .before .before .if1 .taken), (c₁ .before .before .loop .inv .1 .1 .balanced, omega (arith, c .before .before .if2 .left)))))
 
 enum-known-next : tie.Need-enum-known-next Inv-loop μ-loop
 enum-known-next c = search needs

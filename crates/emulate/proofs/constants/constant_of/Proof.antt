@@ -1,4 +1,4 @@
-use Rattle.emulate.proofs.Constancy.{is-constant, ends-constant}
+use Rattle.emulate.proofs.Giving.{is-constant, ends-constant}
 use borrow.Author.Needs.{needs}
 use Rattle.emulate.proofs.constants.constant_of.Statement.{statement}
 use Rattle.emulate.proofs.constants.constant_of.Tie as tie

@@ -1,5 +1,5 @@
 use borrow.Author.Needs.{needs}
-use Rattle.emulate.proofs.Constancy.{full-number, no-number}
+use Rattle.emulate.proofs.Giving.{full-number, no-number}
 use Rattle.emulate.proofs.constants.if_full.Statement.{statement}
 use Rattle.emulate.proofs.constants.if_full.Tie as tie
 

@@ -1,4 +1,4 @@
-use Rattle.emulate.proofs.Constancy.{unknown-given, known-given}
+use Rattle.emulate.proofs.Giving.{unknown-given, known-given}
 use borrow.Author.Needs.{needs}
 use Rattle.emulate.proofs.constants.known_only.Statement.{statement}
 use Rattle.emulate.proofs.constants.known_only.Tie as tie

@@ -1,0 +1,36 @@
+use borrow.Author.Needs.{needs}
+use Rattle.hosting.proofs.Shapes.{room, same-kind}
+use Rattle.machine.proofs.Room.{room-after}
+use Rattle.machine.proofs.Entering.{enters-ready, enters-executes, enters-other}
+use Rattle.machine.proofs.execute.Statement.{statement}
+use Rattle.machine.proofs.execute.Tie as tie
+
+pub execute-spec : {M : Type 1} → statement M
+execute-spec =
+    tie.close
+    (tie.spec
+    (λ c κs. search needs)  -- enter-requires
+    (λ c κs. search (needs, enters-ready))  -- evaluate-requires
+    (λ c κs. search (needs, room))  -- kind-requires
+    (λ c κs. search (needs, room-after, enters-ready))  -- executed-requires
+    (λ c κs. search (needs, room-after, enters-ready))  -- noted-requires
+    (λ c. search needs)  -- same-length
+    (λ c. search needs)  -- same-length-2
+    (λ c.  -- returns
+    let i = c .before .before in
+    let k = i .before in
+    let e = k .before .before .before .before .before in
+    let e′ = e .before .before .before .before .before in
+    let s = e′ .before .before .before .before .before .before in
+    let s′ = s .before in
+    enters-executes (e′ .enter .ensures) (s′ .pre .0) (e .evaluate .ensures .1 (same-kind (k .kind .ensures) (i .if1 .taken))) (c .executed .ensures))
+    (λ c. search needs)  -- same-length-3
+    (λ c. search needs)  -- same-length-4
+    (λ c.  -- returns-2
+    let i = c .before .before in
+    let k = i .before in
+    let e = k .before .before .before .before .before in
+    let e′ = e .before .before .before .before .before in
+    let s = e′ .before .before .before .before .before .before in
+    let s′ = s .before in
+    enters-other (e′ .enter .ensures) (s′ .pre .0) (k .kind .ensures) (i .if1 .left) (e .evaluate .ensures .0) (c .noted .ensures)))

@@ -1,0 +1,227 @@
+-- What asking the world is, as a run on the code's host: a question answered and written, and loads. Assumes nothing.
+use mathlib.Core.Path.{_≡_, refl, sym, ap, ap₂, _∙_, subst}
+use mathlib.Core.Bool.{Bool, true, false, not}
+use mathlib.Core.List.{List, [], _∷_}
+use mathlib.Core.Option.{Option, none, some}
+use Prim.Native.Nat.{ℕ, zero, suc, _+_, _/_, _%_, _^_, max, _≤_, _<_}
+use native.Mathlib.Omega.{arith}
+use native.Mathlib.Nat.{mod-eq-of-lt}
+use lib.ListN.{length, drop}
+use lib.Dec.{eqb}
+use borrow.Rule.Slice.PartMut.{midOf}
+use Rattle.layout.specs.Format.{whole, boolOf}
+use Rattle.layout.specs.Number.{le, num}
+use Rattle.value.specs.declared.Ty.{Ty}
+use Rattle.value.specs.declared.Val.{Val}
+use Rattle.value.specs.Value.{type, knownVal, unknownVal}
+use Rattle.files.specs.World.{region, bytesFrom}
+use Rattle.memory.specs.Overlay.{Overlay, Cell, find, toByte}
+use Rattle.memory.specs.Overlay as over
+use Rattle.memory.specs.Post.{loadedAs}
+use Rattle.memory.specs.declared.Loaded.{Loaded}
+use Rattle.memory.specs.declared.Loaded.the-variants as loaded
+use Rattle.memory.specs.declared.Image.{Image}
+use Rattle.definition.specs.Question.{Asked, Question, Answer, World, Entry, Span, readAt, cut}
+use Rattle.definition.specs.Act.{Act, done, ask, End, gave, _>>=_}
+use Rattle.definition.specs.Memory.{byteOr, gather, loaded, load}
+use Rattle.definition.specs.Evaluate.{loadThrough}
+use Rattle.definition.specs.Host.{hosted}
+use Rattle.definition.proofs.Hosts.{goOnFrom, hosted-bind}
+use Rattle.index.specs.Regions.{RegionsIndexed, ReadFrom}
+use Rattle.index.specs.declared.regions.Image as index
+use Rattle.stream.specs.Stream.{placed, advanced, Sent}
+use Rattle.stream.specs.Pieces.{questionBytes, readEntry}
+use Rattle.workspace.specs.Parts.{workspaceSize, registersPart, tablesPlace, tables, regionsPlace, regionsSize, regionsPart}
+use Rattle.workspace.specs.Registers.{wordAt, valueAt}
+use Rattle.workspace.specs.View.{view, Fit}
+use Rattle.workspace.specs.Post.{SetsWord}
+use Rattle.workspace.proofs.LendLaws.{regions-lent}
+use Rattle.workspace.proofs.ValueLaws.{flag-read}
+use Rattle.hosting.specs.declared.How.{How}
+use Rattle.hosting.specs.declared.Counts.{Counts}
+use Rattle.hosting.specs.Scene.{Given, given, Scene, Ready, Meant}
+use Rattle.hosting.specs.Held.{Held, held, codeHost, asked, withAsked}
+use Rattle.hosting.specs.Ending.{Ending, ended}
+use Rattle.hosting.specs.Runs.{Came, Runs}
+use Rattle.hosting.proofs.Running.{kept-on}
+use Rattle.hosting.proofs.Keeping.{kept-ready}
+use Rattle.operations.specs.Registers.{countsIn, howIn, resultIn, endIn}
+use Rattle.operations.specs.Going.{ReadyIn, Goes}
+use Rattle.operations.specs.Steps.{Gives}
+use Rattle.operations.specs.Asking.{Sends, Asks, foundVal, LoadsAt, Loads}
+use Rattle.operations.proofs.Registers.{stored-word, asked-word, regions-word, second-word, result-value, asked-set, asked-how}
+use Rattle.operations.proofs.Going.{aside-held, goes, acts, gives-goes}
+
+-- ---- bytes sent
+
+pub sends-held : (e : Entry) {w o w′ o′ : List ℕ} → Sends (questionBytes e) w o w′ o′ → held w′ o′ (countsIn w′) ≡ asked (howIn w .second) e (held w o (countsIn w))
+unfolding held asked
+sends-held e {w} {o} {w′} {o′} s = aside-held o′ (countsIn w′) (s .aside) ∙ ap₂ (λ (l : List ℕ) (b : Counts). record { view = view w (b .stored); out = l; tally = b .tally }) (s .part) (s .counts)
+
+-- from what a writer of a piece did with the cursor that the registers hold
+pub sends-of : (piece w o : List ℕ) (place k cursor : ℕ) (w′ o′ : List ℕ) → place ≡ wordAt (registersPart w) 2 → k ≡ wordAt (registersPart w) 8 → Sent (not (eqb k 0)) o place piece o′ cursor → SetsWord w 2 cursor w′
+    → Sends piece w o w′ o′
+sends-of piece w o place k cursor w′ o′ ep ek s h =
+    let on : not (eqb k 0) ≡ howIn w .second = flag-read k ∙ ap boolOf ek ∙ second-word w in
+    let at : place ≡ countsIn w .tally .asked = ep ∙ asked-word w in
+    record {
+      aside = h .aside;
+      part = s .part ∙ ap₂ (λ (b : Bool) (n : ℕ). placed b o n piece) on at;
+      counts = asked-set h ∙ ap (λ (c : ℕ). withAsked c (countsIn w)) (s .cursor ∙ ap (λ (n : ℕ). advanced n (length piece)) at);
+      how = asked-how h;
+    }
+
+-- the workspace is as large as before, and in order
+pub sends-room : (piece w o w′ o′ : List ℕ) (n : ℕ) → Sends piece w o w′ o′ → Fit w n → workspaceSize ≤ length w′
+sends-room piece w o w′ o′ n s f = omega (arith, s .aside .size, f .room)
+
+pub sends-fit : (piece w o w′ o′ : List ℕ) (stored : ℕ) → Sends piece w o w′ o′ → stored ≡ wordAt (registersPart w) 0 → Fit w (countsIn w .stored) → Fit w′ stored
+sends-fit piece w o w′ o′ stored s e f = s .aside .fit stored (subst (Fit w) (sym (e ∙ stored-word w)) f)
+
+-- ---- a question
+
+-- the entry that is sent is a question with its answer
+pub sends-asks : {g : How → Given} {κ : Asked} {q : Question κ} {y : Answer κ} (e : Entry) {w o w′ o′ : List ℕ} → ((h : How) (x : Scene) → Meant (g h) x (tables w) → x .world κ (cut κ q) ≡ y) → e ≡ (κ, (cut κ q, y))
+    → Sends (questionBytes e) w o w′ o′ → Asks g κ q y w o w′ o′
+sends-asks e {w} {o} f i s = record {
+  aside = s .aside;
+  answer = f;
+  held = sends-held e s ∙ ap (λ (z : Entry). asked (howIn w .second) z (held w o (countsIn w))) i;
+  stored = ap (λ (b : Counts). b .stored) (s .counts);
+  how = s .how;
+}
+
+pub asks-as : {g : How → Given} {κ : Asked} {q : Question κ} {y z : Answer κ} {w o w′ o′ : List ℕ} → y ≡ z → Asks g κ q y w o w′ o′ → Asks g κ q z w o w′ o′
+asks-as {g} {κ} {q} {w = w} {o = o} {w′ = w′} {o′ = o′} e s = subst (λ (v : Answer κ). Asks g κ q v w o w′ o′) e s
+
+asked-ready : {g : How → Given} {κ : Asked} {q : Question κ} {y : Answer κ} {w o w′ o′ : List ℕ} (h : How) → Asks g κ q y w o w′ o′ → Ready (g h) w (countsIn w) → Ready (g h) w′ (countsIn w′)
+asked-ready {w = w} {w′ = w′} h s p = kept-ready (s .aside .tables) (subst (Fit w′) (sym (s .stored)) (s .aside .fit (countsIn w .stored) (p .fit))) p
+
+-- it is asked, and then goes on with its answer
+pub asks-goes : {A : Type 0} {nodes symbols regions : List ℕ} {κ : Asked} {q : Question κ} {y : Answer κ} (k : Scene → Answer κ → Act A) {w o w₁ o₁ : List ℕ} {e : Ending A} {w′ o′ : List ℕ}
+    → Asks (given nodes symbols regions) κ q y w o w₁ o₁ → Goes (given nodes symbols regions) (λ x. k x y) w₁ o₁ e w′ o′ → Goes (given nodes symbols regions) (λ x. ask κ q (k x)) w o e w′ o′
+unfolding hosted codeHost
+asks-goes {A} {nodes} {symbols} {regions} {κ} {q} {y} k {w} {o} {w₁} {o₁} {e} {w′} {o′} s r = record { how = r .how ∙ s .how; runs = λ h i p. on h i (r .runs h (s .how ∙ i) (asked-ready h s p)) }
+  where
+    on : (h : How) → howIn w ≡ h → Runs (given nodes symbols regions h) (λ x. k x y) w₁ o₁ (countsIn w₁) e w′ o′ (countsIn w′)
+        → Runs (given nodes symbols regions h) (λ x. ask κ q (k x)) w o (countsIn w) e w′ o′ (countsIn w′)
+    on h i u = record {
+      ready = u .ready;
+      came = λ x m.
+          let host = codeHost (x .world) (h .second) in
+          let a = held w o (countsIn w) in
+          let there : asked (h .second) (κ, (cut κ q, y)) a ≡ held w₁ o₁ (countsIn w₁) = ap (λ (z : How). asked (z .second) (κ, (cut κ q, y)) a) (sym i) ∙ sym (s .held) in
+          let step : hosted host (k x (x .world κ (cut κ q))) (asked (h .second) (κ, (cut κ q, x .world κ (cut κ q))) a) ≡ hosted host (k x y) (held w₁ o₁ (countsIn w₁)) =
+          ap (λ (z : Answer κ). hosted host (k x z) (asked (h .second) (κ, (cut κ q, z)) a)) (s .answer h x m) ∙ ap (hosted host (k x y)) there in
+          subst (λ (z : End A × Held). Came z e (held w′ o′ (countsIn w′))) (sym step) (u .came x (subst (Meant (given nodes symbols regions h) x) (sym (s .aside .tables)) m));
+      tables = kept-on e (λ t. t ∙ s .aside .tables) (u .tables);
+    }
+
+-- ---- a load
+
+-- the regions' index, lent as a part of the workspace
+pub regions-here : (regions w : List ℕ) (count : ℕ) → count ≡ wordAt (registersPart w) 7 → RegionsIndexed regions (regionsPart (tables w)) (howIn w .regions)
+    → RegionsIndexed regions (midOf (tablesPlace + regionsPlace) regionsSize w) count
+regions-here regions w count e h = subst (λ (p : List ℕ). RegionsIndexed regions p count) (sym (regions-lent w)) (subst (RegionsIndexed regions (regionsPart (tables w))) (sym (e ∙ regions-word w)) h)
+
+module _ (w : List ℕ) (t : Ty) (found : Loaded) (r : Bool) (w′ : List ℕ) where
+  found-as : (v : Val) → v ≡ foundVal t found → Gives w v r w′ → Gives w (foundVal t found) r w′
+  found-as v e g = subst (λ (u : Val). Gives w u r w′) e g
+
+  pub found-known : (n : ℕ) (v : Val) → found ≡ loaded.Known n → v ≡ knownVal n (type (t .bits) (t .signed)) → Gives w v r w′ → Gives w (foundVal t found) r w′
+  found-known n v e ev g = found-as v (ev ∙ ap (foundVal t) (sym e)) g
+
+  pub found-unknown : found ≡ loaded.Unknown → Gives w (unknownVal (type (t .bits) (t .signed))) r w′ → Gives w (foundVal t found) r w′
+  found-unknown e g = found-as _ (ap (foundVal t) (sym e)) g
+
+found-byte : (z : Option Cell) (image : List ℕ) → byteOr z image ≡ over.byteOr (toByte z) image
+found-byte none [] = refl
+found-byte none (b ∷ bs) = refl
+found-byte (some c) [] = refl
+found-byte (some c) (b ∷ bs) = refl
+
+abbrev consIf : ℕ → Option (List ℕ) → Option (List ℕ)
+consIf b r = elim r [ none ↦ none | some bs ↦ some (b ∷ bs) ]
+
+-- one byte, and then those that the rest comes to
+gather-after : (w : World) (second : Bool) (m : Act (Option (List ℕ))) (rest : Option (List ℕ)) (s : Held) → hosted (codeHost w second) m s ≡ (gave rest, s) → (y : Option ℕ)
+    → hosted {A = Option (List ℕ)} (codeHost w second) (elim y [ none ↦ done none | some b ↦ m >>= λ r. done (consIf b r) ]) s ≡ (gave (elim y [ none ↦ none | some b ↦ consIf b rest ]), s)
+unfolding hosted
+gather-after w second m rest s h none = refl
+gather-after w second m rest s h (some b) =
+    hosted-bind (codeHost w second) (λ r. done (consIf b r)) m s
+    ∙ ap (λ (p : End (Option (List ℕ)) × Held). goOnFrom (p .0) (p .1) (λ r s′. hosted (codeHost w second) (done (consIf b r)) s′)) h
+
+-- the bytes gathered are those of the memory that is held
+gather-hosted : (w : World) (second : Bool) (n a : ℕ) (image : List ℕ) (s : Held) → hosted (codeHost w second) (gather n a image) s ≡ (gave (over.gather (s .view .memory) image a n), s)
+unfolding hosted codeHost gather over.gather _>>=_
+gather-hosted w second zero a image s = refl
+gather-hosted w second (suc n) a image s =
+    let rest = over.gather (s .view .memory) (drop 1 image) (suc a) n in
+    gather-after w second (gather n (suc a) (drop 1 image)) rest s (gather-hosted w second n (suc a) (drop 1 image) s) (byteOr (find (a % 2 ^ 64) (s .view .memory)) image)
+    ∙ ap (λ (y : Option ℕ). (gave (elim y [ none ↦ none | some b ↦ consIf b rest ]), s)) (found-byte (find (a % 2 ^ 64) (s .view .memory)) image)
+
+gather-goes : {g : How → Given} (n address : ℕ) (image : List ℕ) {w o : List ℕ} → Goes g (λ x. gather n address image) w o (ended (over.gather (view w (countsIn w .stored) .memory) image address n)) w o
+unfolding held
+gather-goes {g} n address image {w} {o} = record {
+  how = refl;
+  runs = λ h _ p. record { ready = p; came = λ x m. gather-hosted (x .world) (g h .how .second) n address image (held w o (countsIn w)); tables = refl };
+}
+
+loaded-as : (t : Ty) (z : Option (List ℕ)) → loaded t z ≡ foundVal t (loadedAs (elim z [ none ↦ none | some bs ↦ some (num bs) ]))
+loaded-as t none = refl
+loaded-as t (some bs) = refl
+
+found-is : (m : Overlay Cell) (image : List ℕ) (address n : ℕ) (t : Ty) → loaded t (over.gather m image address n) ≡ foundVal t (loadedAs (over.load m image address n))
+unfolding over.load
+found-is m image address n t = loaded-as t (over.gather m image address n)
+
+-- a question of so many bytes fits its fields
+span-fits : (address size : ℕ) → address < 2 ^ 64 → size ≤ 8 → cut readAt (record { address = address; size = size }) ≡ record { address = address; size = size }
+unfolding cut
+span-fits address size h l = ap₂ (λ (a n : ℕ). record { address = a; size = n }) (mod-eq-of-lt (omega arith)) (mod-eq-of-lt (omega arith))
+
+reads : {regions w o w′ o′ : List ℕ} (nodes symbols : List ℕ) (address size count number : ℕ) (image : index.Image) → address < 2 ^ 64 → size ≤ 8 → ReadFrom regions address size image → count ≡ image .count → number ≡ image .number
+    → Sends (questionBytes (readEntry address size count number)) w o w′ o′ → Asks (given nodes symbols regions) readAt (record { address = address; size = size }) (le count number) w o w′ o′
+reads {regions} nodes symbols address size count number image ha hs r ec en s =
+    let fits = span-fits address size ha hs in
+    let same : le count number ≡ bytesFrom (whole region regions) size address = ap₂ le ec en ∙ r .bytes in
+    sends-asks (readEntry address size count number) (λ h x m. ap (x .world readAt) fits ∙ m .images address size ∙ sym same) (ap (λ (q : Span). (readAt, (q, le count number))) (sym fits)) s
+
+load-is : (address : ℕ) (t : Ty) (n : ℕ) → n ≡ max (t .bits / 8) 1 → load address t ≡ ask readAt (record { address = address; size = n }) (λ im. gather n address im >>= λ bs. done (loaded t bs))
+unfolding load _>>=_
+load-is address t n e = rw e
+
+pub load-asks : {regions w o w₁ o′ w′ : List ℕ} {address bytes stored : ℕ} {t : Ty} (image : index.Image) (own : Image) {found : Loaded} {r : Bool} → bytes ≡ max (t .bits / 8) 1 → bytes ≤ 8 → address < 2 ^ 64
+    → ReadFrom regions address bytes image → own .count ≡ image .count → own .number ≡ image .number → Sends (questionBytes (readEntry address bytes (own .count) (own .number))) w o w₁ o′
+    → stored ≡ wordAt (registersPart w) 0 → found ≡ loadedAs (over.load (view w₁ stored .memory) (le (own .count) (own .number)) address bytes) → Gives w₁ (foundVal t found) r w′
+    → LoadsAt regions address t w o r w′ o′
+load-asks {regions} {w} {o} {w₁} {o′} {w′} {address} {bytes} {stored} {t} image own {found} {r} eb lb la rd ec en sd es ef e = record { goes = λ nodes symbols. go nodes symbols }
+  where
+    go : (nodes symbols : List ℕ) → Goes (given nodes symbols regions) (λ x. load address t) w o (endIn r w′) w′ o′
+    go nodes symbols =
+        let s : Asks (given nodes symbols regions) readAt (record { address = address; size = bytes }) (le (own .count) (own .number)) w o w₁ o′ = reads nodes symbols address bytes (own .count) (own .number) image la lb rd ec en sd in
+        let bs = le (own .count) (own .number) in
+        let got = loaded t (over.gather (view w₁ (countsIn w₁ .stored) .memory) bs address bytes) in
+        let same : foundVal t found ≡ got =
+        ap (foundVal t) ef ∙ sym (found-is (view w₁ stored .memory) bs address bytes t) ∙ ap (λ (n : ℕ). loaded t (over.gather (view w₁ n .memory) bs address bytes)) (es ∙ stored-word w ∙ sym (s .stored)) in
+        acts (λ _ x _. load-is address t bytes eb)
+        (asks-goes (λ x im. gather bytes address im >>= λ z. done (loaded t z)) s (goes (λ x z. done (loaded t z)) (gather-goes bytes address bs) (gives-goes (subst (λ (v : Val). Gives w₁ v r w′) same e))))
+
+-- ---- through the last result
+
+through-known : (p : Val) (t : Ty) → p .known ≡ true → (x : Scene) → loadThrough (x .env) (p, t) ≡ load (p .number) t
+through-known p t e x = rw e
+
+through-unknown : (p : Val) (t : Ty) → p .known ≡ false → (x : Scene) → loadThrough (x .env) (p, t) ≡ done (unknownVal t)
+through-unknown p t e x = rw e
+
+module _ (regions : List ℕ) (p : Val) (t : Ty) (w o : List ℕ) (r : Bool) (w′ : List ℕ) (e : p ≡ valueAt (registersPart w) 0) where
+  of-result : {o′ : List ℕ} → Loads regions p t w o r w′ o′ → Loads regions (resultIn w) t w o r w′ o′
+  of-result {o′} h = subst (λ (v : Val). Loads regions v t w o r w′ o′) (e ∙ result-value w) h
+
+  pub load-nowhere : p .known ≡ false → Gives w (unknownVal (type (t .bits) (t .signed))) r w′ → Loads regions (resultIn w) t w o r w′ o
+  load-nowhere k q = of-result (record { goes = λ nodes symbols. acts (λ _ x _. through-unknown p t k x) (gives-goes q) })
+
+  pub load-through : (o′ : List ℕ) → p .known ≡ true → LoadsAt regions (p .number) t w o r w′ o′ → Loads regions (resultIn w) t w o r w′ o′
+  load-through o′ k l = of-result (record { goes = λ nodes symbols. acts (λ _ x _. through-known p t k x) (l .goes nodes symbols) })

@@ -1,0 +1,9 @@
+pub mod Registers
+pub mod Going
+pub mod Answering
+pub mod Asking
+pub mod Working
+pub mod Targeting
+pub mod Counting
+pub mod Naming
+pub mod Taking

@@ -1,0 +1,35 @@
+use borrow.Author.Needs.{needs}
+use Rattle.workspace.proofs.LendLaws.{symbols-lent}
+use Rattle.operations.proofs.Naming.{symbol-inside, address-asks}
+use Rattle.operations.proofs.names.ask_address.Statement.{statement}
+use Rattle.operations.proofs.names.ask_address.Tie as tie
+
+address-of-requires : tie.Need-address-of-requires
+address-of-requires c κs =
+    let at-reference = c .before .before in
+    let start = at-reference .before .before .before .before .before in
+    symbol-inside (start .pre .1 .1 .0) (start .pre .1 .1 .1) (at-reference .reference .ensures .0) _ (start .pre .1 .0)
+
+returns : tie.Need-returns
+returns c =
+    let at-tell = c .before .before .before .before in
+    let at-answered = at-tell .before .before .before in
+    let at-address-of = at-answered .before in
+    let at-reference = at-address-of .before .before .before in
+    let start = at-reference .before .before .before .before .before in
+    address-asks _ _ _ _ _ _ _ _ _ _ _ (start .pre .1 .1 .0) (start .pre .1 .1 .1) (at-reference .reference .ensures .0) (symbols-lent _) (at-answered .answered .ensures) (at-address-of .address-of .ensures) (at-tell .tell .ensures)
+
+pub ask-address-spec : {M : Type 1} → statement M
+ask-address-spec =
+    tie.close
+    (tie.spec
+    (λ c κs. search needs)
+    (λ c. search needs)
+    (λ c. search needs)
+    (λ c. search needs)
+    address-of-requires
+    (λ c κs. search needs)
+    (λ c κs. search needs)
+    (λ c. search needs)
+    (λ c. search needs)
+    returns)

@@ -1,0 +1,5 @@
+pub mod Registers
+pub mod Going
+pub mod Steps
+pub mod Asking
+pub mod Taking

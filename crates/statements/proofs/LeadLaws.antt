@@ -1,0 +1,154 @@
+-- Where terminators lead, as the code tells it. Assumes nothing.
+use mathlib.Core.Path.{_≡_, refl, sym, ap, _∙_}
+use mathlib.Core.Bool.{Bool, true, false}
+use mathlib.Core.List.{List, [], _∷_}
+use mathlib.Core.Option.{Option, none, some}
+use Prim.Native.Nat.{ℕ, zero, suc, _+_, _-_, _*_, _≤_, _<_}
+use native.Mathlib.Nat.{add-zero, add-suc, suc-add}
+use native.Mathlib.Omega.{arith}
+use borrow.Author.Tests.{eq-eqb, ne-eqb}
+use lib.Dec.{eqb}
+use lib.ListN.{length}
+use Rattle.value.specs.declared.Val.{Val}
+use Rattle.layout.specs.Number.{numberAt}
+use Rattle.files.specs.Program.{Case, Statement, listed, caseAt, statementAt}
+use Rattle.definition.specs.Act.{Why, branchUnknown, switchUnknown, noCase, gave, stopped}
+use Rattle.definition.specs.Statements as statements
+use Rattle.definition.specs.Walk as walk
+use Rattle.index.specs.declared.Maybe.{Maybe}
+use Rattle.index.specs.declared.Maybe.the-variants.{Known, Nothing}
+use Rattle.index.specs.declared.blocks.Place.{Place}
+use Rattle.index.specs.declared.blocks.Statement as index
+use Rattle.index.specs.Answers.{maybeOf, optionOf}
+use Rattle.index.specs.Blocks.{caseOf, States}
+use Rattle.hosting.specs.declared.Short.{Short}
+use Rattle.hosting.specs.declared.Stop.the-variants.{Unknown}
+use Rattle.hosting.specs.declared.Outcome.{Outcome}
+use Rattle.hosting.specs.declared.Outcome.the-variants.{Is, Ends}
+use Rattle.hosting.specs.declared.Evaluated.{Evaluated}
+use Rattle.hosting.specs.Ending.{ended, short, shortOf, endOf}
+use Rattle.hosting.specs.Walking.{unknownEnd}
+use Rattle.statements.specs.declared.terminators.Next.the-variants.{Stops, Goes}
+use Rattle.statements.specs.declared.terminators.Lead.{Lead}
+use Rattle.statements.specs.declared.terminators.Lead.the-variants.{To, Fails}
+use Rattle.statements.specs.declared.terminators.Led.{Led}
+use Rattle.statements.specs.Endings.{endEnd, bindEnd, triedEnd, leadEnd, stopsEnd}
+use Rattle.statements.specs.Placing.{Dealt}
+use Rattle.statements.specs.Post.{branches, switches, Taken, Chosen, statementsAt, LastIs, AddressIs, Leads}
+
+-- ---- a Branch's value
+
+module _ (root taken next : ℕ) (v : Val) where
+  pub branch-unknown : v .known ≡ false → short (some (branchUnknown root)) ≡ endEnd (branches root taken next v)
+  branch-unknown h = rw h
+
+  pub branch-zero : v .known ≡ true → v .number ≡ 0 → ended next ≡ endEnd (branches root taken next v)
+  branch-zero h z = rw (h, eq-eqb (v .number) 0 z)
+
+  pub branch-other : v .known ≡ true → (v .number ≡ 0 → ⊥) → ended taken ≡ endEnd (branches root taken next v)
+  branch-other h z = rw (h, ne-eqb (v .number) 0 z)
+
+-- ---- a Switch's value
+
+case-same : (cs : List Case) (n : ℕ) → caseOf cs n ≡ walk.caseOf cs n
+unfolding caseOf walk.caseOf
+case-same [] n = refl
+case-same (c ∷ cs) n = ap (λ (o : Option ℕ). elim (eqb (c .value) n) [ true ↦ some (c .target) | false ↦ o ]) (case-same cs n)
+
+known-is : {n : ℕ} (o : Option ℕ) → maybeOf o ≡ Known n → o ≡ some n
+known-is none h = absurd (let z : _≡_ {A = ℕ} 0 1 = cc in omega arith)
+known-is (some m) h = cc
+
+nothing-is : (o : Option ℕ) → maybeOf o ≡ Nothing → o ≡ none
+nothing-is none h = refl
+nothing-is (some m) h = absurd (let z : _≡_ {A = ℕ} 0 1 = cc in omega arith)
+
+module _ (root : ℕ) (cases : List Case) (v : Val) where
+  pub switch-unknown : v .known ≡ false → short (some (switchUnknown root)) ≡ endEnd (switches root cases v)
+  switch-unknown h = rw h
+
+  module _ (h : v .known ≡ true) {n : ℕ} (e : n ≡ walk.extended v) {m : Maybe} (read : m ≡ maybeOf (caseOf cases n)) where
+    case-is : caseOf cases n ≡ walk.caseOf cases (walk.extended v)
+    case-is = case-same cases n ∙ ap (walk.caseOf cases) e
+
+    by-case : (o : Option ℕ) → caseOf cases n ≡ o → endEnd (switches root cases v) ≡ endEnd (elim o [ none ↦ stopped (noCase (walk.extended v)) | some b ↦ gave b ])
+    by-case o q =
+        ap (λ (b : Bool). endEnd {A = ℕ} (elim b [
+          | false ↦ stopped (switchUnknown root)
+          | true ↦ elim (walk.caseOf cases (walk.extended v)) [ none ↦ stopped (noCase (walk.extended v)) | some b ↦ gave b ]
+        ])) h
+        ∙ ap (λ (z : Option ℕ). endEnd {A = ℕ} (elim z [ none ↦ stopped (noCase (walk.extended v)) | some b ↦ gave b ])) (sym case-is ∙ q)
+
+    pub switch-case : {b : ℕ} → m ≡ Known b → ended b ≡ endEnd (switches root cases v)
+    switch-case {b} k = sym (by-case (some b) (known-is (caseOf cases n) (sym read ∙ k)))
+
+    pub switch-none : m ≡ Nothing → short (some (noCase n)) ≡ endEnd (switches root cases v)
+    switch-none k = ap (λ (z : ℕ). short (some (noCase z))) e ∙ sym (by-case none (nothing-is (caseOf cases n) (sym read ∙ k)))
+
+-- ---- with the evaluation's end
+
+pub taken-is : {root taken next : ℕ} {e : Evaluated} {v : Val} {l : Lead} → e .outcome ≡ Is v → leadEnd l ≡ endEnd (branches root taken next v) → Taken root taken next e (record { lead = l; at = e .at })
+taken-is {root} {taken} {next} h q = record { at = refl; is = q ∙ sym (ap (λ (o : Outcome). bindEnd (branches root taken next) (endOf o)) h) }
+
+pub taken-ends : {root taken next : ℕ} {e : Evaluated} {s : Short} → e .outcome ≡ Ends s → Taken root taken next e (record { lead = Fails s; at = e .at })
+taken-ends {root} {taken} {next} h = record { at = refl; is = sym (ap (λ (o : Outcome). bindEnd (branches root taken next) (endOf o)) h) }
+
+module _ {blocks : List ℕ} {start count root : ℕ} {e : Evaluated} where
+  pub chosen-is : {v : Val} {l : Lead} → e .outcome ≡ Is v → leadEnd l ≡ endEnd (switches root (listed (caseAt blocks (start + 24)) 0 count) v) → Chosen blocks start count root e (record { lead = l; at = e .at })
+  chosen-is h q = record { at = refl; is = q ∙ sym (ap (λ (o : Outcome). bindEnd (switches root (listed (caseAt blocks (start + 24)) 0 count)) (endOf o)) h) }
+
+  pub chosen-ends : {s : Short} → e .outcome ≡ Ends s → Chosen blocks start count root e (record { lead = Fails s; at = e .at })
+  chosen-ends h = record { at = refl; is = sym (ap (λ (o : Outcome). bindEnd (switches root (listed (caseAt blocks (start + 24)) 0 count)) (endOf o)) h) }
+
+-- ---- the last statement's address
+
+last-listed : (f : ℕ → Statement) (i n : ℕ) → walk.lastAddress (listed f i (suc n)) ≡ f (i + n) .address
+unfolding listed walk.lastAddress
+last-listed f i zero = ap (λ (j : ℕ). f j .address) (sym (add-zero i))
+last-listed f i (suc n) = last-listed f (suc i) n ∙ ap (λ (j : ℕ). f j .address) (suc-add i n ∙ sym (add-suc i n))
+
+module _ {ss blocks : List ℕ} {p : Place} {n : ℕ} (count : (n ≡ numberAt blocks (p .start) 2) × (n < 65536)) where
+  pub last-none : n ≡ 0 → LastIs ss blocks p Nothing
+  unfolding listed walk.lastAddress
+  last-none z = record { is = λ nodes. ap (λ (k : ℕ). walk.lastAddress (listed (statementAt nodes ss) (p .first) k)) (sym z ∙ count .0) }
+
+  pub last-some : {s : index.Statement} → (n ≡ 0 → ⊥) → States ss (p .first + (n - 1)) s → LastIs ss blocks p (s .address)
+  last-some ne s = record {
+    is = λ nodes.
+        let z : suc (n - 1) ≡ n = omega arith in
+        sym (s .address nodes) ∙ sym (last-listed (statementAt nodes ss) (p .first) (n - 1)) ∙ ap (λ (k : ℕ). walk.lastAddress (listed (statementAt nodes ss) (p .first) k)) (z ∙ count .0);
+  }
+
+  -- and it can be read
+  pub last-inside : Dealt ss blocks p → (n ≡ 0 → ⊥) → (p .first + (n - 1)) * 13 + 13 ≤ length ss
+  last-inside d ne = omega (arith, d .dealt, count .0)
+
+pub address-own : {ss blocks : List ℕ} {p : Place} {address : Maybe} {a : ℕ} → address ≡ Known a → AddressIs ss blocks p address (Known a)
+address-own {ss} {blocks} {p} e = record { is = λ nodes. ap (λ (m : Maybe). walk.addressOr (optionOf m) (statementsAt nodes ss blocks p)) (sym e) }
+
+pub address-last : {ss blocks : List ℕ} {p : Place} {address r : Maybe} → address ≡ Nothing → LastIs ss blocks p r → AddressIs ss blocks p address r
+address-last {ss} {blocks} {p} e l = record { is = λ nodes. l .is nodes ∙ ap (λ (m : Maybe). walk.addressOr (optionOf m) (statementsAt nodes ss blocks p)) (sym e) }
+
+-- ---- what comes next
+
+pub leads-to : {ss blocks : List ℕ} {p : Place} {address : Maybe} {l : Led} {b : ℕ} → l .lead ≡ To b
+    → Leads ss blocks p address l (record { next = Goes (record { block = b; statement = 0; inside = false }); at = l .at })
+leads-to {ss} {blocks} {p} {address} h = record {
+  at = refl;
+  is = λ nodes limit. ap (λ (z : Lead). triedEnd (walk.leftTo (walk.addressOr (optionOf address) (statementsAt nodes ss blocks p))) (leadEnd z)) (sym h);
+  outside = refl;
+}
+
+stop-led : (at at′ : Option ℕ) → at ≡ at′ → (y : Option Why) → stopsEnd (unknownEnd at y) ≡ triedEnd (walk.leftTo at′) (short y)
+stop-led at at′ e none = refl
+stop-led at at′ e (some y) = ap (λ (z : Option ℕ). ended (walk.stops (statements.Unknown z y))) e
+
+pub leads-short : {ss blocks : List ℕ} {p : Place} {address m : Maybe} {l : Led} {s : Short} → l .lead ≡ Fails s → AddressIs ss blocks p address m
+    → Leads ss blocks p address l (record { next = Stops (Unknown m s); at = l .at })
+leads-short {ss} {blocks} {p} {address} {m} {s = s} h a = record {
+  at = refl;
+  is = λ nodes limit.
+      stop-led (optionOf m) (walk.addressOr (optionOf address) (statementsAt nodes ss blocks p)) (a .is nodes) (shortOf s)
+      ∙ ap (λ (z : Lead). triedEnd (walk.leftTo (walk.addressOr (optionOf address) (statementsAt nodes ss blocks p))) (leadEnd z)) (sym h);
+  outside = tt;
+}

@@ -1,0 +1,161 @@
+-- A statement's step as the code sends it is the definition's. Assumes nothing.
+use mathlib.Core.Path.{_≡_, refl, sym, ap, _∙_, subst}
+use mathlib.Core.Bool.{Bool, true, false, cond}
+use mathlib.Core.List.{List, [], _∷_, _++_, append-nil}
+use mathlib.Core.Option.{none, some}
+use Prim.Native.Nat.{ℕ, zero, suc, _+_, _*_, _≤_, _<_}
+use native.Mathlib.Omega.{arith}
+use borrow.Author.Tests.{eqb-true, eqb-false}
+use lib.Dec.{eqb}
+use lib.ListN.{length, take, drop, length-append}
+use lib.Seq.{take-at}
+use Rattle.value.specs.declared.Val.{Val}
+use Rattle.layout.specs.Each.{Each}
+use Rattle.layout.specs.Number.{le, num, numberAt}
+use Rattle.layout.specs.Format.{number, writes, reads, boolOf}
+use Rattle.layout.proofs.NumberLaws.{length-le, num-le, numberAt-lt}
+use Rattle.layout.proofs.FormatLaws.{Below}
+use Rattle.definition.specs.Act.{notFollowed, Pending}
+use Rattle.definition.specs.Statements as statements
+use Rattle.definition.specs.Fields.{noVal}
+use Rattle.definition.specs.Record.{noteFields, stepFields}
+use Rattle.workspace.specs.Parts.{workspaceSize}
+use Rattle.workspace.specs.Note.{names, namesBytes, pendingIn, noted, taken, Few}
+use Rattle.stream.specs.declared.NotePiece.{NotePiece}
+use Rattle.stream.specs.declared.StepPiece.{StepPiece}
+use Rattle.stream.specs.Stream.{Sent}
+use Rattle.stream.specs.Pieces.{optional, takenCount, takenNames, stepBytes, noteFrom, stepFrom}
+use Rattle.stream.proofs.FieldLaws.{noting, note-none, note-fields, note-value, note-unknown, note-followed, note-taken, step-sent, taken-back}
+use Rattle.hosting.specs.declared.Note.{Note}
+use Rattle.hosting.specs.declared.Note.the-variants.{Nothing, Fields, Written, Unknown}
+use Rattle.hosting.specs.declared.Did.{Did}
+use Rattle.hosting.specs.Ending.{noteOf, wroteOf, didOf}
+use Rattle.statements.specs.declared.steps.Site.{Site}
+use Rattle.statements.specs.Steps.{OwnNote, leftPiece, takesNote, pieceOf, stepAs}
+use Rattle.statements.proofs.StopLaws.{flagged}
+
+-- ---- a note of its own
+
+module _ {note : Note} {p : NotePiece} where
+  pub own-none : {v : Val} → note ≡ Nothing → v ≡ noVal → p ≡ noting 0 0 0 v false → OwnNote note p
+  own-none e z h = rw (e, h, z) (record { fields = λ names. note-none names; untaken = refl })
+
+  pub own-fields : {a n : ℕ} {v : Val} → note ≡ Fields a n → v ≡ noVal → p ≡ noting 1 a n v false → OwnNote note p
+  own-fields {a} {n} e z h = rw (e, h, z) (record { fields = λ names. note-fields names a n; untaken = refl })
+
+  pub own-value : {a : ℕ} {v : Val} → note ≡ Written a v → p ≡ noting 2 a 0 v false → OwnNote note p
+  own-value {a} {v} e h = rw (e, h) (record { fields = λ names. note-value names a v; untaken = refl })
+
+  pub own-unknown : {v : Val} → note ≡ Unknown → v ≡ noVal → p ≡ noting 3 0 0 v false → OwnNote note p
+  own-unknown e z h = rw (e, h, z) (record { fields = λ names. note-unknown names; untaken = refl })
+
+-- ---- which note a step tells
+
+-- the pending one, where it has none of its own
+left-told : (note : Note) (p : Pending) → takesNote note p ≡ true → statements.noteOf (noteOf note) p ≡ notFollowed (taken p)
+left-told Nothing none h = absurd (let z : _≡_ {A = ℕ} 0 1 = cc in omega arith)
+left-told Nothing (some xs) h = refl
+left-told (Fields a n) p h = absurd (let z : _≡_ {A = ℕ} 0 1 = cc in omega arith)
+left-told (Written a v) p h = absurd (let z : _≡_ {A = ℕ} 0 1 = cc in omega arith)
+left-told Unknown p h = absurd (let z : _≡_ {A = ℕ} 0 1 = cc in omega arith)
+
+own-told : (note : Note) (p : Pending) → takesNote note p ≡ false → statements.noteOf (noteOf note) p ≡ noteOf note
+own-told Nothing none h = refl
+own-told Nothing (some xs) h = absurd (let z : _≡_ {A = ℕ} 0 1 = cc in omega arith)
+own-told (Fields a n) p h = refl
+own-told (Written a v) p h = refl
+own-told Unknown p h = refl
+
+pub taken-noted : (note : Note) (p : Pending) → takesNote note p ≡ true → noted p ≡ true
+taken-noted Nothing p h = h
+taken-noted (Fields a n) p h = absurd (let z : _≡_ {A = ℕ} 0 1 = cc in omega arith)
+taken-noted (Written a v) p h = absurd (let z : _≡_ {A = ℕ} 0 1 = cc in omega arith)
+taken-noted Unknown p h = absurd (let z : _≡_ {A = ℕ} 0 1 = cc in omega arith)
+
+-- ---- the names in bytes
+
+module _ (xs : List ℕ) where
+  names-count : length xs < 65536 → numberAt (namesBytes xs) 0 2 ≡ length xs
+  unfolding namesBytes numberAt
+  names-count h = ap num (take-at (le 2 (length xs)) (writes (number 2) xs) 2 (length-le 2 (length xs))) ∙ num-le 2 (length xs) h
+
+  names-length : length (namesBytes xs) ≡ 2 + length (writes (number 2) xs)
+  unfolding namesBytes
+  names-length = length-append (le 2 (length xs)) (writes (number 2) xs) ∙ ap (λ (n : ℕ). n + length (writes (number 2) xs)) (length-le 2 (length xs))
+
+length-written : (xs : List ℕ) → length (writes (number 2) xs) ≡ 2 * length xs
+length-written [] = refl
+length-written (x ∷ xs) = omega (arith, length-written xs)
+
+-- names that were read are names that can be written
+reads-below : (k : ℕ) (s : List ℕ) → Each (Below 2) (reads (number 2) k s .0)
+unfolding numberAt
+reads-below zero s = tt
+reads-below (suc k) s = (numberAt-lt s 0 2, reads-below k (drop 2 s))
+
+pub pending-below : (p : List ℕ) → Each (Below 2) (taken (pendingIn p))
+unfolding pendingIn
+pending-below p = go (boolOf (numberAt p 0 1))
+  where
+    go : (b : Bool) → Each (Below 2) (taken (elim b [ true ↦ some (names .read (drop 1 p) .0) | false ↦ none ]))
+    go true = reads-below (num (take 2 (drop 1 p))) (drop 2 (drop 1 p))
+    go false = tt
+
+names-taken : (xs : List ℕ) → length xs < 65536 → Each (Below 2) xs → takenNames true (namesBytes xs) ≡ xs
+unfolding namesBytes
+names-taken xs l h = ap (takenNames true) (sym (append-nil (le 2 (length xs) ++ writes (number 2) xs))) ∙ taken-back xs [] l h
+
+left-fields : (xs : List ℕ) (count : ℕ) → count ≡ length xs → length xs < 65536 → Each (Below 2) xs → noteFrom (leftPiece count) (namesBytes xs) ≡ noteFields (notFollowed xs)
+left-fields xs count e l h = go (eqb count 0) refl ∙ ap (λ (ys : List ℕ). noteFields (notFollowed ys)) (names-taken xs l h)
+  where
+    n : numberAt (namesBytes xs) 0 2 ≡ count
+    n = names-count xs l ∙ sym e
+
+    go : (b : Bool) → eqb count 0 ≡ b → noteFrom (leftPiece count) (namesBytes xs) ≡ noteFields (notFollowed (takenNames true (namesBytes xs)))
+    go true q = ap (λ (b : Bool). noteFrom (noting (cond b 4 5) 0 0 noVal true) (namesBytes xs)) q ∙ note-followed (namesBytes xs) (n ∙ eqb-true count 0 q)
+    go false q = ap (λ (b : Bool). noteFrom (noting (cond b 4 5) 0 0 noVal true) (namesBytes xs)) q ∙ note-taken (namesBytes xs) (λ z. eqb-false count 0 q (sym n ∙ z))
+
+-- ---- the step
+
+wrote-told : (wrote : Bool) (x : ℕ) (v : Val) → optional wrote (x, v) ≡ wroteOf wrote x v
+wrote-told true x v = refl
+wrote-told false x v = refl
+
+-- a piece with a note has the step's fields where the note has
+sent-with : {on : Bool} {out out′ : List ℕ} {at r : ℕ} (site : Site) (did : Did) (n : NotePiece) (names : List ℕ) (p : Pending)
+    → noteFrom n names ≡ noteFields (statements.noteOf (noteOf (did .note)) p) → Sent on out at (stepBytes (stepFrom (pieceOf site did n) names)) out′ r
+    → Sent on out at (stepBytes (stepFields (stepAs site (didOf did) p))) out′ r
+unfolding pieceOf
+sent-with site did n names p e s =
+    step-sent (pieceOf site did n) names (stepAs site (didOf did) p) s (flagged (site .address)) refl refl (wrote-told (did .wrote) (did .name) (did .value)) e
+
+module _ {on : Bool} {out out′ : List ℕ} {at r : ℕ} (names : List ℕ) (site : Site) (did : Did) (s : StepPiece) {n : NotePiece} {b : Bool} (p : Pending)
+    (takes : b ≡ takesNote (did .note) p) (made : s ≡ pieceOf site did n) where
+  pub sent-own : b ≡ false → OwnNote (did .note) n → Sent on out at (stepBytes (stepFrom s names)) out′ r → Sent on out at (stepBytes (stepFields (stepAs site (didOf did) p))) out′ r
+  sent-own f o t =
+      sent-with site did n names p (o .fields names ∙ ap noteFields (sym (own-told (did .note) p (sym takes ∙ f))))
+      (subst (λ (z : StepPiece). Sent on out at (stepBytes (stepFrom z names)) out′ r) made t)
+
+  module _ {count : ℕ} (left : n ≡ leftPiece count) (counted : count ≡ length (taken p)) (bytes : names ≡ namesBytes (taken p)) (few : Few p) where
+    pub sent-left : b ≡ true → Each (Below 2) (taken p) → Sent on out at (stepBytes (stepFrom s names)) out′ r → Sent on out at (stepBytes (stepFields (stepAs site (didOf did) p))) out′ r
+    sent-left f h t =
+        sent-with site did (leftPiece count) (namesBytes (taken p)) p
+        (left-fields (taken p) count counted (omega arith) h ∙ ap noteFields (sym (left-told (did .note) p (sym takes ∙ f))))
+        (subst (λ (z : StepPiece). Sent on out at (stepBytes (stepFrom z (namesBytes (taken p)))) out′ r) (made ∙ ap (pieceOf site did) left)
+        (subst (λ (z : List ℕ). Sent on out at (stepBytes (stepFrom s z)) out′ r) bytes t))
+
+-- what a step needs of the names beside it
+pub names-fit : (site : Site) (did : Did) {s : StepPiece} {n : NotePiece} (count : ℕ) (xs : List ℕ) {names : List ℕ} → s ≡ pieceOf site did n → n ≡ leftPiece count → names ≡ namesBytes xs → length xs ≤ 16
+    → 2 + 2 * takenCount (s .note .taken) names ≤ length names
+unfolding pieceOf
+names-fit site did {s} count xs {names} made left bytes few =
+    let t : takenCount (s .note .taken) names ≡ length xs = ap (λ (z : StepPiece). takenCount (z .note .taken) names) made ∙ ap (λ (z : NotePiece). takenCount (z .taken) names) left
+    ∙ ap (takenCount true) bytes ∙ names-count xs (omega arith) in
+    omega (arith, t, ap length bytes, names-length xs, length-written xs)
+
+pub names-none : (site : Site) (did : Did) {s : StepPiece} {n : NotePiece} (w : List ℕ) → s ≡ pieceOf site did n → OwnNote (did .note) n → workspaceSize ≤ length w
+    → 2 + 2 * takenCount (s .note .taken) w ≤ length w
+unfolding pieceOf
+names-none site did {s} {n} w made o room =
+    let t : takenCount (s .note .taken) w ≡ 0 = ap (λ (z : StepPiece). takenCount (z .note .taken) w) made ∙ ap (λ (z : Bool). takenCount z w) (o .untaken) in
+    omega (arith, t)

@@ -1,0 +1,68 @@
+use Rattle.statements.proofs.StepLaws.{taken-noted, pending-below, sent-own, sent-left, names-fit, names-none}
+use Rattle.workspace.specs.Note.{pendingIn}
+use Rattle.workspace.specs.Parts.{notePart}
+use denote.Ref.{now}
+use mathlib.Core.Path.{sym, _∙_}
+use borrow.Author.Needs.{needs}
+use Rattle.statements.proofs.steps.send.Statement.{statement}
+use Rattle.statements.proofs.steps.send.Tie as tie
+
+takes-requires : tie.Need-takes-requires
+takes-requires c κs = search needs
+
+name-count-requires : tie.Need-name-count-requires
+name-count-requires c κs = search needs
+
+left-note-requires : tie.Need-left-note-requires
+left-note-requires c κs = search needs
+
+piece-requires : tie.Need-piece-requires
+piece-requires c κs = search needs
+
+names-requires : tie.Need-names-requires
+names-requires c κs =
+    let c₁ = c .before .before .before .before .before .before in
+    let start = c₁ .before .before .before in
+    (start .pre .0, taken-noted (start .args .did .note) (pendingIn (notePart (now (start .args .ws)))) (sym (c .before .before .before .before .before .takes .ensures) ∙ c .before .before .before .before .if1 .taken), start .pre .1)
+
+step-requires : tie.Need-step-requires
+step-requires c κs = search (needs, names-fit)
+
+same-length : tie.Need-same-length
+same-length c = search needs
+
+returns : tie.Need-returns
+returns c = search (needs, sent-left, pending-below)
+
+own-note-requires : tie.Need-own-note-requires
+own-note-requires c κs = search needs
+
+piece-requires-2 : tie.Need-piece-requires-2
+piece-requires-2 c κs = search needs
+
+step-requires-2 : tie.Need-step-requires-2
+step-requires-2 c κs = search (needs, names-none)
+
+same-length-2 : tie.Need-same-length-2
+same-length-2 c = search needs
+
+returns-2 : tie.Need-returns-2
+returns-2 c = search (needs, sent-own)
+
+pub send-spec : {M : Type 1} → statement M
+send-spec =
+    tie.close
+    (tie.spec
+    takes-requires
+    name-count-requires
+    left-note-requires
+    piece-requires
+    names-requires
+    step-requires
+    same-length
+    returns
+    own-note-requires
+    piece-requires-2
+    step-requires-2
+    same-length-2
+    returns-2)
