@@ -1,5 +1,7 @@
 //! The three that are timed: our library, the original, the walker in C.
 
+use library::Library;
+use oracle::comparison::Part;
 use oracle::emulate::{self, Limits, Run};
 use oracle::files;
 use oracle::judge::{Files, LEAST_WORKSPACE};
@@ -8,28 +10,7 @@ use oracle::trees::{self, Growth};
 
 use crate::image::Image;
 
-/// `struct emulate_answer`
-#[repr(C)]
-#[derive(Debug, Clone, Copy, PartialEq, Eq)]
-pub struct Answer {
-    pub number: u32,
-    pub length: u32,
-}
-
 extern "C" {
-    fn run(
-        routine: *const u8,
-        routine_length: usize,
-        world: *const u8,
-        world_length: usize,
-        call: *const u8,
-        call_length: usize,
-        record: *mut u8,
-        record_length: usize,
-        workspace: *mut u8,
-        workspace_length: usize,
-    ) -> Answer;
-
     fn walker_run(
         routine: *const u8,
         world: *const u8,
@@ -58,24 +39,9 @@ impl Lent {
     }
 }
 
-/// Our library: files in, record out.
-pub fn ours(files: &Files, record: &mut [u8], workspace: &mut [u8]) -> Answer {
-    // SAFETY: each pointer comes with the length of its own slice, and the
-    // library keeps none of them.
-    unsafe {
-        run(
-            files.routine.as_ptr(),
-            files.routine.len(),
-            files.world.as_ptr(),
-            files.world.len(),
-            files.call.as_ptr(),
-            files.call.len(),
-            record.as_mut_ptr(),
-            record.len(),
-            workspace.as_mut_ptr(),
-            workspace.len(),
-        )
-    }
+/// Our library: files in, record out; gives the number and the record's length.
+pub fn ours(files: &Files, record: &mut [u8], workspace: &mut [u8]) -> (u32, u32) {
+    Library.run(files, record, workspace)
 }
 
 /// The walker in C: files in, record out; gives the record's length.

@@ -16,9 +16,9 @@ use crate::timing::{medians, timed, Contender};
 pub fn check(row: &Row, lent: &mut Lent) {
     let verdict = judge(&row.files, row.buffer, row.workspace);
     assert_eq!(verdict.number, 0, "{}: runs", row.name);
-    let answer = ours(&row.files, &mut lent.record, &mut lent.workspace);
-    assert_eq!(answer.number, 0, "{}: ours runs", row.name);
-    let length = answer.length as usize;
+    let (number, length) = ours(&row.files, &mut lent.record, &mut lent.workspace);
+    assert_eq!(number, 0, "{}: ours runs", row.name);
+    let length = length as usize;
     let same = lent.record[..length] == verdict.record[..];
     assert!(same, "{}: our record is the original's", row.name);
     lent.record[..length].fill(0xa5);
@@ -57,8 +57,8 @@ pub fn check_refusal(row: &Row, lent: &mut Lent) {
     let verdict = judge(&row.files, row.buffer, row.workspace);
     assert_eq!(verdict.number, row.number, "{}: judged", row.name);
     let record = &mut lent.record[..row.buffer];
-    let answer = ours(&row.files, record, &mut lent.workspace[..row.workspace]);
-    assert_eq!(answer.number, row.number, "{}: ours", row.name);
+    let (number, _) = ours(&row.files, record, &mut lent.workspace[..row.workspace]);
+    assert_eq!(number, row.number, "{}: ours", row.name);
 }
 
 pub fn print(rows: &[Row], refusals: &[Row], lent: &mut Lent) {

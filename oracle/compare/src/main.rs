@@ -4,12 +4,11 @@
 //! that differs is written into a folder of its own under `differences/`, and
 //! the program ends with 1.
 
-mod part;
-
 use std::path::{Path, PathBuf};
 use std::process::ExitCode;
 use std::{env, fs};
 
+use library::Library;
 use oracle::cases::{case, fixed, Case};
 use oracle::comparison::{
     compare_constant, compare_run, compare_worlds, constant_nodes, worlds, Difference,
@@ -18,7 +17,6 @@ use oracle::coverage::Coverage;
 use oracle::generate::Size;
 use oracle::judge::Files;
 use oracle::two_worlds::Change;
-use part::Library;
 
 /// After so many differences the rest is not looked at.
 const ENOUGH: usize = 20;

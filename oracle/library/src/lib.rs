@@ -1,4 +1,5 @@
-//! Our reader behind its C interface.
+//! Our reader, linked from its static library and called through its C
+//! interface.
 
 use oracle::comparison::{ConstantAnswer, Part};
 use oracle::judge::Files;
