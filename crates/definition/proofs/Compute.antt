@@ -25,7 +25,8 @@ use Rattle.definition.specs.Listing.{stepsText, variablesText, textOf, l
 use Rattle.definition.specs.Memory.{gather, load, pokes, storeVal}
 use Rattle.definition.specs.Numerals.{digits}
 use Rattle.definition.specs.Question.{cut}
-use Rattle.definition.specs.Record.{stopBody, countsBody, stepsBody, variablesBody, memoryBody, questionsBody, layout, recordBytes, bodyAt, questionsIn}
+use Rattle.memory.specs.Entries as entries
+use Rattle.definition.specs.Record.{stopBody, countsBody, stepsBody, variablesBody, questionsBody, layout, recordBytes, bodyAt, questionsIn}
 use Rattle.definition.specs.Run.{acts, start, ranOf, ranIn, ran, recordOf, fromState, verdict, number}
 use Rattle.definition.specs.State.{run}
 use Rattle.definition.specs.Statements.{returning, outcome, runStatement}
@@ -46,16 +47,12 @@ unfolding statementOk statementsOk blockOk blockAt blocksIn callBodyOk limitsOf 
 files-open = tt
 
 unfoldable pub memory-open : Unit {0}
-unfolding find store
+unfolding find store entries.entry
 memory-open = tt
 
 unfoldable pub recordComputed : (routine world call : List ℕ) → List ℕ
-unfolding layout-open value-open files-open memory-open _>>=_ try constantRun constantValue constantVerdict constantNumber readVariable writeVariable pointer storeFields assignStruct assignVal assign takeAll followed call addressVal evalAs look execute stepsText variablesText textOf listingOf gather load pokes storeVal digits cut stopBody countsBody stepsBody variablesBody memoryBody questionsBody layout recordBytes bodyAt questionsIn acts start ranOf ranIn ran recordOf fromState verdict number run returning outcome runStatement kid count evals lastAddress caseOf taking choosing terminate settle unit walk walkFrom walkAll declaredIn parametersSet unsetAdded followAt worldOf
+unfolding layout-open value-open files-open memory-open _>>=_ try constantRun constantValue constantVerdict constantNumber readVariable writeVariable pointer storeFields assignStruct assignVal assign takeAll followed call addressVal evalAs look execute stepsText variablesText textOf listingOf gather load pokes storeVal digits cut stopBody countsBody stepsBody variablesBody questionsBody layout recordBytes bodyAt questionsIn acts start ranOf ranIn ran recordOf fromState verdict number run returning outcome runStatement kid count evals lastAddress caseOf taking choosing terminate settle unit walk walkFrom walkAll declaredIn parametersSet unsetAdded followAt worldOf
 recordComputed routine world call = recordOf routine world call
-
-unfoldable pub textComputed : (routine world call : List ℕ) → List ℕ
-unfolding recordComputed
-textComputed routine world call = textOf (programOf routine) (ran routine world call)
 
 unfoldable pub listingComputed : (routine world call : List ℕ) → List ℕ
 unfolding recordComputed

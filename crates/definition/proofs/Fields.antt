@@ -4,8 +4,8 @@ use mathlib.Core.Path.{_≡_, refl, ap}
 use mathlib.Core.Bool.{Bool, true, false}
 use mathlib.Core.List.{List, [], _∷_, map}
 use mathlib.Core.Option.{Option, none, some}
-use Prim.Native.Nat.{ℕ, zero, suc, _≤_, _<_}
-use native.Mathlib.Nat.{mod-lt, mod-eq-of-lt, not-suc-le-zero}
+use Prim.Native.Nat.{ℕ, zero, suc, _<_}
+use native.Mathlib.Nat.{mod-lt}
 use native.Mathlib.Omega.{arith}
 use lib.ListN.{length, take, length-take}
 use lib.Dec.{lit<}
@@ -13,7 +13,8 @@ use Rattle.layout.specs.Each.{Each}
 use Rattle.value.specs.declared.Val.{Val}
 use Rattle.layout.specs.Format.{number, flag, flagOf, boolOf}
 use Rattle.definition.specs.Question.{Asked, addressOf, sizeOf, readAt, callTo, Question, Answer, cutVal, cut}
-use Rattle.definition.specs.Fields.{fromVal, toVal, val, flagAndNumber, codeOf, askedOf, asked, fromSpan, toSpan, fromCalling, toCalling, question, Fields, fieldsOf, fields, Written, entry}
+use Rattle.value.specs.Encoding.{fromVal, toVal, val}
+use Rattle.definition.specs.Fields.{flagAndNumber, codeOf, askedOf, asked, fromSpan, toSpan, fromCalling, toCalling, question, Fields, fieldsOf, fields, Written, entry}
 use Rattle.layout.proofs.FormatLaws.{Sound, Below, number-sound, then-sound, pair-sound, via-sound, times-sound, counted-sound}
 
 -- ---- what the fields of a question and of an answer hold
@@ -152,26 +153,3 @@ cut-fits callTo q = (
   rw length-take (omega arith),
   cut-each 255 (q .values),
 )
-
--- ---- and a question that fits is asked as it is: what code owes where it asks
-
-cutVal-id : (v : Val) → ValFits v → cutVal v ≡ v
-cutVal-id v h = λ i. record { known = v .known; signed = v .signed; bits = mod-eq-of-lt (h .0) i; number = mod-eq-of-lt (h .1) i }
-
-cut-vals-id : (n : ℕ) (vs : List Val) → length vs ≤ n → Each ValFits vs → take n (map cutVal vs) ≡ vs
-cut-vals-id zero [] l h = refl
-cut-vals-id zero (v ∷ vs) l h = absurd (not-suc-le-zero l)
-cut-vals-id (suc n) [] l h = refl
-cut-vals-id (suc n) (v ∷ vs) l h = λ i. cutVal-id v (h .0) i ∷ cut-vals-id n vs (omega arith) (h .1) i
-
-pub cut-id : (κ : Asked) (q : Question κ) → QuestionFits κ q → cut κ q ≡ q
-unfolding cut
-cut-id addressOf n h = mod-eq-of-lt h
-cut-id sizeOf n h = mod-eq-of-lt h
-cut-id readAt q h = λ i. record { address = mod-eq-of-lt (h .0) i; size = mod-eq-of-lt (h .1) i }
-cut-id callTo q h = λ i. record {
-  name = mod-eq-of-lt (h .0) i;
-  address = mod-eq-of-lt (h .1) i;
-  depth = mod-eq-of-lt (h .2) i;
-  values = cut-vals-id 255 (q .values) (omega arith) (h .4) i;
-}

@@ -3,7 +3,7 @@
 use mathlib.Core.Path.{_≡_, refl, ap, _∙_}
 use mathlib.Core.List.{List, [], _∷_}
 use Rattle.definition.specs.Question.{Asked, Question, Answer, World, Entry, cut}
-use Rattle.definition.specs.Act.{Act, done, fail, ask, act, End, gave, stopped, _>>=_, try}
+use Rattle.definition.specs.Act.{Act, done, fail, ask, act, End, gave, stopped, _>>=_}
 use Rattle.definition.specs.State.{reply, next, State, Out, preceded, run}
 use Rattle.layout.specs.Each.{Each}
 
@@ -58,12 +58,3 @@ module _ {A B : Type 0} (w : World) (f : A → Act B) where
       ap (λ (o : Out B). preceded ((κ, (cut κ q, a)) ∷ []) o) (run-bind (k a) s)
       ∙ goOn-cons (κ, (cut κ q, a)) (r .end) (r .log) (r .after) (λ a′ s′. run w (f a′) s′)
   run-bind (act o k) s = run-bind (k (reply o s)) (next o s)
-
-module _ {A : Type 0} (w : World) where
-  -- a tree that is caught has the same log and state
-  pub run-try : (t : Act A) (s : State) → run w (try t) s ≡ record { end = gave (run w t s .end); log = run w t s .log; after = run w t s .after }
-  unfolding run try
-  run-try (done a) s = refl
-  run-try (fail x) s = refl
-  run-try (ask κ q k) s = ap (λ (o : Out (End A)). preceded ((κ, (cut κ q, w κ (cut κ q))) ∷ []) o) (run-try (k (w κ (cut κ q))) s)
-  run-try (act o k) s = run-try (k (reply o s)) (next o s)

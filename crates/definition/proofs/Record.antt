@@ -1,20 +1,15 @@
 -- The bodies of a record are found by its pairs, however many there are (`body-back`); the bodies of steps and of questions grow at their ends. Assumes
 -- nothing.
 use mathlib.Core.Path.{_≡_, refl, sym, ap, ap₂, _∙_}
-use mathlib.Core.List.{List, [], _∷_, _++_, append-assoc, map, map-append}
+use mathlib.Core.List.{List, [], _∷_, _++_, append-assoc}
 use Prim.Native.Nat.{ℕ, _+_, _*_, _^_, _≤_, _<_}
 use native.Mathlib.Omega.{arith}
 use lib.ListN.{length, take, drop, length-append}
 use lib.Seq.{take-at, drop-at, drop-drop}
 use Rattle.layout.specs.Number.{le, num, numberAt}
-use Rattle.layout.specs.Format.{writes}
-use Rattle.definition.specs.Question.{Entry}
-use Rattle.definition.specs.Act.{Step}
 use Rattle.definition.specs.Statements.{Stop}
-use Rattle.definition.specs.Fields.{written, entry}
-use Rattle.definition.specs.Record.{stopBody, countsBody, stepFields, stepFormat, stepsBody, questionsBody, join, pairs, layout, bodyAt}
+use Rattle.definition.specs.Record.{stopBody, countsBody, join, pairs, layout, bodyAt}
 use Rattle.layout.proofs.NumberLaws.{num-le}
-use Rattle.layout.proofs.FormatLaws.{writes-append}
 
 join-append : (xs ys : List (List ℕ)) → join (xs ++ ys) ≡ join xs ++ join ys
 join-append [] ys = refl
@@ -101,11 +96,3 @@ stop-length s = refl
 pub counts-length : (entered recorded : ℕ) → length (countsBody entered recorded) ≡ 12
 unfolding countsBody
 counts-length entered recorded = refl
-
-pub steps-append : (ss ts : List Step) → stepsBody (ss ++ ts) ≡ stepsBody ss ++ stepsBody ts
-unfolding stepsBody
-steps-append ss ts = ap (writes stepFormat) (map-append stepFields ss ts) ∙ writes-append stepFormat (map stepFields ss) (map stepFields ts)
-
-pub questions-append : (es fs : List Entry) → questionsBody (es ++ fs) ≡ questionsBody es ++ questionsBody fs
-unfolding questionsBody
-questions-append es fs = ap (writes entry) (map-append written es fs) ∙ writes-append entry (map written es) (map written fs)

@@ -109,7 +109,7 @@ own-stop limit NoBlocks σ h = tt
 own-stop limit (NoReturn at) σ h = tt
 own-stop limit (Halted at target) σ h = tt
 
-quiet-follow : (left name address : ℕ) (vs : List Val) → Quiet (followAt left name address vs)
+pub quiet-follow : (left name address : ℕ) (vs : List Val) → Quiet (followAt left name address vs)
 unfolding followAt
 quiet-follow zero name address vs = q-done
 quiet-follow (suc left) name address vs = q-ask (λ _. q-done)

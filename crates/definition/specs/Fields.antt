@@ -1,24 +1,15 @@
 -- How values, questions and answers stand in a record (document 01, "The record"), and the fields that a world gives to a question. Assumes nothing.
-use mathlib.Core.Bool.{Bool, false}
+use mathlib.Core.Bool.{false}
 use mathlib.Core.List.{List}
 use mathlib.Core.Option.{Option, none, some}
 use Prim.Native.Nat.{ℕ, zero, suc}
 use lib.ListN.{length}
 use Rattle.value.specs.declared.Val.{Val}
-use Rattle.layout.specs.Format.{Format, number, flag, then, pair, via, times, counted}
+use Rattle.layout.specs.Format.{Format, number, then, pair, via, times, counted}
+use Rattle.value.specs.Encoding.{val}
 use Rattle.definition.specs.Question.{Asked, addressOf, sizeOf, readAt, callTo, Span, Calling, Question, Answer, World, Entry}
 
 -- ---- values, and what may be absent
-
--- "A value is 14 bytes: known u8, signed u8, width in bits u32, number u64"
-abbrev pub fromVal : Val → Bool × (Bool × (ℕ × ℕ))
-fromVal v = (v .known, (v .signed, (v .bits, v .number)))
-
-abbrev pub toVal : Bool × (Bool × (ℕ × ℕ)) → Val
-toVal p = record { known = p .0; signed = p .1 .0; bits = p .1 .1 .0; number = p .1 .1 .1 }
-
-abbrev pub val : Format Val
-val = via fromVal toVal (pair flag (pair flag (pair (number 4) (number 8))))
 
 -- "Unused fields are 0": where there is no value
 abbrev pub noVal : Val

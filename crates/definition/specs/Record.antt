@@ -8,11 +8,13 @@ use lib.ListN.{length, take, drop}
 use Rattle.value.specs.declared.Val.{Val}
 use Rattle.layout.specs.Number.{le, numberAt}
 use Rattle.layout.specs.Format.{Format, number, flag, pair, counted, whole, writes}
+use Rattle.memory.specs.Entries.{memoryBody}
 use Rattle.memory.specs.Overlay.{Overlay, Cell}
 use Rattle.definition.specs.Question.{Entry}
 use Rattle.definition.specs.Act.{Why, branchUnknown, switchUnknown, noCase, structTo, unknownAddress, unknownValue, noWidth, storeTo, byZero, Note, noNote, fieldsWritten, valueWritten, resultUnknown, notFollowed, Step}
 use Rattle.definition.specs.Statements.{Stop, Returned, Steps, Unknown, NoBlock, NoBlocks, NoReturn, Halted}
-use Rattle.definition.specs.Fields.{val, noVal, flagAndNumber, Written, written, entry}
+use Rattle.value.specs.Encoding.{val}
+use Rattle.definition.specs.Fields.{noVal, flagAndNumber, Written, written, entry}
 
 -- ---- Stop: "kind u8, reason u8, address flag u8, address u64, number u64 (limit, block, target, value or store address), node u32, name u16, value"
 
@@ -95,13 +97,10 @@ stepFormat =
 unfoldable pub stepsBody : List Step → List ℕ
 stepsBody ss = writes stepFormat (map stepFields ss)
 
--- ---- "Variables, by name: u16, value. Memory, by address: u64, byte. Questions to `World`, in order"
+-- ---- "Variables, by name: u16, value. Memory, by address: u64, byte. Questions to `World`, in order". The Memory body is memory/specs/Entries: memoryBody
 
 unfoldable pub variablesBody : Overlay Val → List ℕ
 variablesBody m = writes (pair (number 2) val) m
-
-unfoldable pub memoryBody : Overlay Cell → List ℕ
-memoryBody m = writes (pair (number 8) (number 1)) m
 
 unfoldable pub questionsBody : List Entry → List ℕ
 questionsBody es = writes entry (map written es)

@@ -28,7 +28,7 @@ acts P l = walkAll P (envOf P (l .depth)) (l .steps)
 unfoldable pub start : Program → Limits → State
 start P l = fresh (l .steps) (variablesAtStart P (map (λ a. knownVal a (type 64 true)) (l .arguments)))
 
--- the walk itself does not end short (proofs/Whole.antt): what ends a statement or a terminator short is its stop
+-- the walk itself does not end short (proofs/Walked.antt): what ends a statement or a terminator short is its stop
 abbrev pub stopOf : End Stop → Stop
 stopOf (gave s) = s
 stopOf (stopped x) = Unknown none x

@@ -18,13 +18,12 @@ use Rattle.files.specs.Head.{headOk}
 use Rattle.files.specs.Nodes.{kindOf, rootOk, fieldsOk, treesOk}
 use Rattle.files.specs.Blocks.{addressOk, statementOk, statementsOk, blockOk, blocksIn}
 use Rattle.files.specs.WorldFile.{symbolsOk, regionsIn}
-use Rattle.files.specs.Call.{callBodyOk, limitsOf}
+use Rattle.files.specs.Call.{callBodyOk}
 use Rattle.files.specs.Refusal.{namesOf, typesOf, worldOk, callOk, first, bodiesRefusal, routineRefusal, orElse, refusal, constantRefusal}
 use Rattle.files.specs.Program.{tree, nodeAt}
 use Rattle.files.specs.Spells.{node-at, Fine, Accepted}
 use Rattle.files.proofs.BoolLaws.{both, AllTrue, each-true}
 use Rattle.files.proofs.ItemLaws.{every-at}
-use Rattle.files.proofs.ListedLaws.{length-listed}
 use Rattle.files.proofs.TableLaws.{has-body}
 use Rattle.files.proofs.Forest.{stands}
 
@@ -112,11 +111,6 @@ call c h =
       depth = leb-true _ _ (t .1 .1 .1 .1 .0);
     }
 
--- "up to 16 arguments"
-pub arguments-few : (c : List ℕ) → callOk c ≡ true → length (limitsOf c .arguments) ≤ 16
-unfolding limitsOf
-arguments-few c h = rw length-listed (omega (arith, call c h .most))
-
 -- a run that no number refuses
 pub record Run (r w c : List ℕ) : Type 0 where
   pub routine : routineRefusal r ≡ 0
@@ -197,13 +191,3 @@ block-root nodes blocks i h l =
     ∷ (leb 1 kind || eqb (numberAt blocks (i + 16) 4) 0) ∷ (eqb kind 2 || eqb (numberAt blocks (i + 20) 4) 0) ∷ []) h in
     let e : (ltb kind 2 || rootOk nodes root) ≡ true = t .1 .1 .1 .1 .0 in
     rw (le-ltb kind 2 l) at e
-
-module _ (r : List ℕ) (h : routineRefusal r ≡ 0) where
-  pub statement-fine : (k : ℕ) → k < length (body r 4) / 13 → Fine (body r 3) (numberAt (body r 4) (k * 13 + 9) 4)
-  statement-fine k l = root-fine (routine-nodes r h) _ (statement-root (body r 3) (body r 4) (routine r h .bodies .stated) k l)
-
-  pub block-fine : (i : ℕ) → blockOk (body r 3) (body r 5) i ≡ true → 2 ≤ getD (body r 5) (i + 2) 0 → Fine (body r 3) (numberAt (body r 5) (i + 12) 4)
-  block-fine i g l = root-fine (routine-nodes r h) _ (block-root (body r 3) (body r 5) i g l)
-
-pub constant-fine : (r : List ℕ) (n : ℕ) → constantRefusal r n ≡ 0 → Fine (body r 3) n
-constant-fine r n h = let c = constant r n h in root-fine (routine-nodes r (c .routine)) n (c .root)

@@ -49,22 +49,6 @@ module _ {S : Type 0} (R : Items S) (e : ℕ) (s : S) (i b : ℕ) (h : b ≡ rea
   pub goes-on : (k : ℕ) → i < e → k ≡ R .item s i → (k ≡ 0 → ⊥) → b ≡ readFrom R e (R .next s i k) (i + k)
   goes-on k l z n = h ∙ goes R e s i k l (sym z) n
 
--- what holds of the state at the start, and is kept by each item, bounds what the reading gives
-module _ {S : Type 0} (R : Items S) (e m : ℕ) (P : S → Type 0) (ended : (s : S) → P s → R .last s ≤ m) (kept : (s : S) (i k : ℕ) → P s → R .item s i ≡ suc k → P (R .next s i (suc k))) where
-  most : (f : ℕ) (s : S) (i : ℕ) → P s → reading R e f s i ≤ m
-  unfolding reading
-  most zero s i p = omega arith
-  most (suc f) s i p = go (leb e i) (R .item s i) refl (λ t j. most f t j)
-    where
-      go : (t : Bool) (k : ℕ) → R .item s i ≡ k → ((s′ : S) (j : ℕ) → P s′ → reading R e f s′ j ≤ m) → cond t (R .last s) (past R (reading R e f) s i k) ≤ m
-      go true k q ih = ended s p
-      go false zero q ih = omega arith
-      go false (suc k) q ih = ih (R .next s i (suc k)) (i + suc k) (kept s i k p q)
-
-  pub reading-most : (s : S) (i : ℕ) → P s → readFrom R e s i ≤ m
-  unfolding readFrom
-  reading-most s i p = most (suc e) s i p
-
 -- a loop over numbers has every one below its own behind it
 module _ (P : ℕ → Bool) where
   pub every-more : (n : ℕ) (t : Bool) → every n P ≡ true → t ≡ P n → not t ≡ false → every (n + 1) P ≡ true

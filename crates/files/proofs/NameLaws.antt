@@ -1,19 +1,16 @@
 -- What the tests of a text, of a name and of a type show. Assumes nothing.
 use mathlib.Core.Path.{_≡_, refl, sym, _∙_}
-use mathlib.Core.Bool.{Bool, true, false, not, _&&_, and-false}
-use mathlib.Core.List.{List, [], _∷_}
-use Prim.Native.Nat.{ℕ, suc, _+_, _-_, _≤_, _<_}
+use mathlib.Core.Bool.{Bool, true, false, not, and-false}
+use mathlib.Core.List.{List, []}
+use Prim.Native.Nat.{ℕ, _+_, _-_, _≤_, _<_}
 use native.Mathlib.Numerals.{add-one}
 use native.Mathlib.Omega.{arith}
 use borrow.Author.Tests.{le-leb, lt-leb, lt-ltb, le-ltb, ltb-true, ltb-false, eq-eqb, ne-eqb, not-true, not-false}
-use lib.Dec.{leb, ltb}
+use lib.Dec.{ltb}
 use lib.ListN.{length, getD, drop, drop-of-length-le}
 use lib.Seq.{drop-cons}
 use Rattle.files.specs.Bytes.{part}
-use Rattle.files.specs.Names.{printable, before, Last, last, nameAt, nameItems, namesIn, typeAt, typeItems, typesIn}
-use Rattle.files.specs.Refusal.{namesOf, typesOf}
-use Rattle.files.proofs.BoolLaws.{each-true, only-there}
-use Rattle.files.proofs.ItemLaws.{reading-most}
+use Rattle.files.specs.Names.{printable, before, last, nameAt, typeAt}
 
 -- at a place of a loop over the bytes: the answer b is what is left of the text
 module _ (lo hi : ℕ) (s : List ℕ) (i : ℕ) (b : Bool) (e : b ≡ printable lo hi (drop i s)) where
@@ -114,32 +111,3 @@ module _ (b : List ℕ) (n i k : ℕ) (e : k ≡ getD b i 0) where
   pub type-good : n < 512 → k ≤ 64 → k ≤ length b - (i + 1) → (r : Bool) → r ≡ printable 0x20 0x7e (part (i + 1) (i + 1 + k) b) → not r ≡ false → k + 1 ≡ typeAt b n i
   unfolding typeAt
   type-good h₁ h₃ h₄ r g₅ h₅ = simp (← e, lt-ltb _ _ h₁, le-leb _ _ h₃, le-leb _ _ h₄, ← g₅, not-false r h₅)
-
--- ---- how many there are
-
-name-room : (b : List ℕ) (s : Last) (i k : ℕ) → nameAt b s i ≡ suc k → s .count < 512
-unfolding nameAt
-name-room b s i k e =
-    let n = getD b i 0 in
-    let text = part (i + 1) (i + 1 + n) b in
-    let t = ltb (s .count) 512 && leb 1 n && leb n 64 && leb n (length b - (i + 1)) && printable 0x21 0x7e text && before (part (s .from) (s .to) b) text in
-    ltb-true _ _ (each-true (ltb (s .count) 512) (leb 1 n ∷ leb n 64 ∷ leb n (length b - (i + 1)) ∷ printable 0x21 0x7e text ∷ before (part (s .from) (s .to) b) text ∷ []) (only-there t (n + 1) (λ z. omega arith) .0) .0)
-
-type-room : (b : List ℕ) (s i k : ℕ) → typeAt b s i ≡ suc k → s < 512
-unfolding typeAt
-type-room b s i k e =
-    let n = getD b i 0 in
-    let text = part (i + 1) (i + 1 + n) b in
-    let t = ltb s 512 && leb n 64 && leb n (length b - (i + 1)) && printable 0x20 0x7e text in
-    ltb-true _ _ (each-true (ltb s 512) (leb n 64 ∷ leb n (length b - (i + 1)) ∷ printable 0x20 0x7e text ∷ []) (only-there t (n + 1) (λ z. omega arith) .0) .0)
-
--- "Names, at most 512", and types
-pub names-most : (b : List ℕ) → namesOf b ≤ 512
-unfolding namesIn
-names-most b =
-    omega (arith, reading-most (nameItems b) (length b) 513 (λ s. s .count ≤ 512) (λ s p. omega arith) (λ s i k p q. omega (arith, name-room b s i k q)) (last 0 0 0) 0 (omega arith))
-
-pub types-most : (b : List ℕ) → typesOf b ≤ 512
-unfolding typesIn
-types-most b =
-    omega (arith, reading-most (typeItems b) (length b) 513 (λ s. s ≤ 512) (λ s p. omega arith) (λ s i k p q. omega (arith, type-room b s i k q)) 0 0 (omega arith))

@@ -1,16 +1,16 @@
 -- What an evaluator at a node of an accepted body asks: how many children it has, where they stand and which trees they are, and what its fields
 -- can be. A law for each kind, over `At b n t`. Assumes nothing.
-use mathlib.Core.Path.{_≡_, refl, sym, ap, subst, _∙_}
+use mathlib.Core.Path.{_≡_, refl, subst, _∙_}
 use mathlib.Core.Bool.{Bool, true, false, not, _&&_, _||_}
 use mathlib.Core.List.{List, [], _∷_}
-use Prim.Native.Nat.{ℕ, zero, suc, _+_, _-_, _*_, _/_, _≤_, _<_}
+use Prim.Native.Nat.{ℕ, _+_, _-_, _*_, _/_, _≤_, _<_}
 use native.Mathlib.Omega.{arith}
 use borrow.Author.Tests.{leb-true, ltb-true, eqb-true, ne-eqb}
 use lib.Dec.{leb, ltb, eqb}
 use lib.ListN.{length}
-use Rattle.files.specs.Nodes.{kindOf, flagOf, refOf, widthOf, spanOf, valueOf, placedOk, ruleOf, refBelow, fieldOk, fieldsOk}
+use Rattle.files.specs.Nodes.{kindOf, flagOf, refOf, widthOf, valueOf, placedOk, ruleOf, refBelow, fieldOk, fieldsOk}
 use Rattle.files.specs.Program.{Node, Tree, tree, Trees, nil, cons, nodeAt}
-use Rattle.files.specs.Spells.{Inside, next, At, node-at, KidsAt, no-kid, a-kid, Accepted, size, height, Under, under-some}
+use Rattle.files.specs.Spells.{Inside, next, At, node-at, KidsAt, no-kid, a-kid, Accepted, size, Under, under-some}
 use Rattle.files.proofs.BoolLaws.{each-true}
 use Rattle.files.proofs.ItemLaws.{every-at}
 use Rattle.files.proofs.Spelled.{spelled-once}
@@ -30,10 +30,6 @@ at-node a = omega (arith, at-room a)
 
 -- ---- children side by side
 
-pub kids-order : {b : List ℕ} {n e : ℕ} {ts : Trees} → KidsAt b n e ts → n ≤ e
-kids-order (no-kid same) = omega arith
-kids-order (a-kid l a ks) = omega arith
-
 -- the child at n, and those after it
 pub record NextKid (b : List ℕ) (n e : ℕ) (ts : Trees) : Type 0 where
   pub kid : Tree
@@ -42,19 +38,6 @@ pub record NextKid (b : List ℕ) (n e : ℕ) (ts : Trees) : Type 0 where
   pub at : At b n kid
   pub within : next b n ≤ e
   pub rest : KidsAt b (next b n) e others
-
-pub kids-next : {b : List ℕ} {n e : ℕ} {ts : Trees} → KidsAt b n e ts → n < e → NextKid b n e ts
-kids-next (no-kid same) l = absurd (omega arith)
-kids-next (a-kid {t = t} {ts = ts} w a ks) l = record { kid = t; others = ts; is = refl; at = a; within = w; rest = ks }
-
-pub kids-over : {b : List ℕ} {n e : ℕ} {ts : Trees} → KidsAt b n e ts → e ≤ n → ts ≡ nil
-kids-over (no-kid same) l = refl
-kids-over {b} (a-kid w a ks) l = absurd (omega (arith, at-inside a .some))
-
-kids-some : {b : List ℕ} {n e : ℕ} {ts : Trees} → KidsAt b n e ts → n < e → 1 ≤ size ts
-unfolding size
-kids-some (no-kid same) l = absurd (omega arith)
-kids-some (a-kid w a ks) l = omega arith
 
 -- what a child is placed under tells whether it is a field
 pub under-next : {b : List ℕ} {p n : ℕ} {t : Tree} {ts us : Trees} → At b n t → us ≡ cons t ts → Under p us → (placedOk (kindOf b n) p ≡ true) × Under p ts
@@ -124,51 +107,12 @@ pub record CallKids (b : List ℕ) (n : ℕ) (t : Tree) : Type 0 where
   pub few : size arguments ≤ 16
 
 module _ {b : List ℕ} {n : ℕ} {t : Tree} where
-  as-leaf : {ts : Trees} → t ≡ tree (nodeAt b n) ts → KidsAt b (n + 1) (next b n) ts → size ts ≡ 0 → Leaf b n t
-  unfolding size
-  as-leaf e (no-kid z) h = record { is = e; ends = sym z }
-  as-leaf e (a-kid w a ks) h = absurd (omega arith)
-
-  as-one : {ts : Trees} → t ≡ tree (nodeAt b n) ts → KidsAt b (n + 1) (next b n) ts → size ts ≡ 1 → OneKid b n t
-  unfolding size
-  as-one e (no-kid z) h = absurd (omega arith)
-  as-one e (a-kid {t = x} w a (no-kid z)) h = record { kid = x; is = e; at = a; ends = z }
-  as-one e (a-kid w a (a-kid w₂ a₂ ks)) h = absurd (omega arith)
-
-  as-two : {ts : Trees} → t ≡ tree (nodeAt b n) ts → KidsAt b (n + 1) (next b n) ts → size ts ≡ 2 → TwoKids b n t
-  unfolding size
-  as-two e (no-kid z) h = absurd (omega arith)
-  as-two e (a-kid w a (no-kid z)) h = absurd (omega arith)
-  as-two e (a-kid {t = x} w a (a-kid {t = y} w₂ a₂ (no-kid z))) h = record { left = x; right = y; is = e; at-left = a; at-right = a₂; ends = z }
-  as-two e (a-kid w a (a-kid w₂ a₂ (a-kid w₃ a₃ ks))) h = absurd (omega arith)
-
-  as-three : {ts : Trees} → t ≡ tree (nodeAt b n) ts → KidsAt b (n + 1) (next b n) ts → size ts ≡ 3 → ThreeKids b n t
-  unfolding size
-  as-three e (no-kid z) h = absurd (omega arith)
-  as-three e (a-kid w a (no-kid z)) h = absurd (omega arith)
-  as-three e (a-kid w a (a-kid w₂ a₂ (no-kid z))) h = absurd (omega arith)
-  as-three e (a-kid {t = x} w a (a-kid {t = y} w₂ a₂ (a-kid {t = v} w₃ a₃ (no-kid z)))) h =
-      record { first = x; second = y; third = v; is = e; at-first = a; at-second = a₂; at-third = a₃; ends = z }
-  as-three e (a-kid w a (a-kid w₂ a₂ (a-kid w₃ a₃ (a-kid w₄ a₄ ks)))) h = absurd (omega arith)
-
   as-call : {ts : Trees} → t ≡ tree (nodeAt b n) ts → KidsAt b (n + 1) (next b n) ts → 1 ≤ size ts → size ts ≤ 17 → CallKids b n t
   unfolding size
   as-call e (no-kid z) h m = absurd (omega arith)
   as-call e (a-kid {t = x} {ts = xs} w a ks) h m = record { callee = x; arguments = xs; is = e; at-callee = a; at-arguments = ks; few = omega arith }
 
 -- ---- the shapes of the kinds
-
-low : (k : ℕ) → k ≤ 7 → (ruleOf k) .many ≡ 0
-unfolding ruleOf
-low zero h = refl
-low (suc zero) h = refl
-low (suc (suc zero)) h = refl
-low (suc (suc (suc zero))) h = refl
-low (suc (suc (suc (suc zero)))) h = refl
-low (suc (suc (suc (suc (suc zero))))) h = refl
-low (suc (suc (suc (suc (suc (suc zero)))))) h = refl
-low (suc (suc (suc (suc (suc (suc (suc zero))))))) h = refl
-low (suc (suc (suc (suc (suc (suc (suc (suc k)))))))) h = absurd (omega arith)
 
 module _ {b : List ℕ} {names types : ℕ} (a : Accepted b names types) {n : ℕ} {t : Tree} (at : At b n t) where
   here : Stands b n
@@ -181,74 +125,12 @@ module _ {b : List ℕ} {names types : ℕ} (a : Accepted b names types) {n : �
   pub any-kids : AnyKids b n t
   any-kids = record { kids = here .kids; is = same; at = here .spells; few = here .few; many = here .many; placed = here .placed }
 
-  -- a chain has at most 64 nodes
-  pub at-height : height t ≤ 64
-  unfolding height
-  at-height = subst (λ (x : Tree). height x ≤ 64) (sym same) (omega (arith, here .high))
-
   sized : (k : ℕ) → kindOf b n ≡ k → ((ruleOf k) .few ≤ size (any-kids .kids)) × (size (any-kids .kids) ≤ (ruleOf k) .many)
   sized k e = (rw e at (any-kids .few), rw e at (any-kids .many))
-
-  leaf-of : (k : ℕ) → kindOf b n ≡ k → (ruleOf k) .many ≡ 0 → Leaf b n t
-  leaf-of k e m = as-leaf (any-kids .is) (any-kids .at) (omega (arith, sized k e .1, m))
-
-  one-of : (k : ℕ) → kindOf b n ≡ k → (ruleOf k) .few ≡ 1 → (ruleOf k) .many ≡ 1 → OneKid b n t
-  one-of k e f m = as-one (any-kids .is) (any-kids .at) (omega (arith, sized k e .0, sized k e .1, f, m))
-
-  two-of : (k : ℕ) → kindOf b n ≡ k → (ruleOf k) .few ≡ 2 → (ruleOf k) .many ≡ 2 → TwoKids b n t
-  two-of k e f m = as-two (any-kids .is) (any-kids .at) (omega (arith, sized k e .0, sized k e .1, f, m))
-
-  -- 0 to 7 and 19
-  pub leaf : kindOf b n ≤ 7 → Leaf b n t
-  leaf h = leaf-of (kindOf b n) refl (low (kindOf b n) h)
-
-  pub plain-leaf : kindOf b n ≡ 19 → Leaf b n t
-  unfolding ruleOf
-  plain-leaf e = leaf-of 19 e refl
-
-  -- 8 to 10 and 18
-  pub cast-kid : kindOf b n ≡ 8 → OneKid b n t
-  unfolding ruleOf
-  cast-kid e = one-of 8 e refl refl
-
-  pub deref-kid : kindOf b n ≡ 9 → OneKid b n t
-  unfolding ruleOf
-  deref-kid e = one-of 9 e refl refl
-
-  pub address-kid : kindOf b n ≡ 10 → OneKid b n t
-  unfolding ruleOf
-  address-kid e = one-of 10 e refl refl
-
-  pub field-kid : kindOf b n ≡ 18 → OneKid b n t
-  unfolding ruleOf
-  field-kid e = one-of 18 e refl refl
-
-  pub ternary-kids : kindOf b n ≡ 11 → ThreeKids b n t
-  unfolding ruleOf
-  ternary-kids e = as-three (any-kids .is) (any-kids .at) (omega (arith, sized 11 e .0, sized 11 e .1))
-
-  pub binary-kids : kindOf b n ≡ 12 → TwoKids b n t
-  unfolding ruleOf
-  binary-kids e = two-of 12 e refl refl
-
-  pub assign-kids : kindOf b n ≡ 13 → TwoKids b n t
-  unfolding ruleOf
-  assign-kids e = two-of 13 e refl refl
 
   pub call-kids : kindOf b n ≡ 14 → CallKids b n t
   unfolding ruleOf
   call-kids e = as-call (any-kids .is) (any-kids .at) (sized 14 e .0) (sized 14 e .1)
-
-  -- "none or one for 16": its span tells which
-  pub return-none : kindOf b n ≡ 16 → spanOf b n ≤ 1 → Leaf b n t
-  unfolding ruleOf
-  return-none e h =
-      let z = kids-over (any-kids .at) (omega arith) in
-      record { is = any-kids .is ∙ ap (tree (nodeAt b n)) z; ends = omega (arith, here .inside .some) }
-
-  pub return-one : kindOf b n ≡ 16 → 1 < spanOf b n → OneKid b n t
-  unfolding ruleOf
-  return-one e h = as-one (any-kids .is) (any-kids .at) (omega (arith, sized 16 e .1, kids-some (any-kids .at) (omega arith)))
 
 -- ---- the fields
 
@@ -281,25 +163,9 @@ module _ {b : List ℕ} {names types : ℕ} (a : Accepted b names types) (n : �
   unfolding ruleOf
   constant-width e = (rw e at (fields-of .narrow), rw e at (fields-of .wide))
 
-  pub condition-flag : kindOf b n ≡ 7 → flagOf b n ≤ 1
-  unfolding ruleOf
-  condition-flag e = rw e at (fields-of .flag)
-
-  pub operator-flag : kindOf b n ≡ 12 → flagOf b n ≤ 17
-  unfolding ruleOf
-  operator-flag e = rw e at (fields-of .flag)
-
   pub var-name : kindOf b n ≡ 1 → refOf b n < names
   unfolding ruleOf
   var-name e = rw e at (fields-of .ref)
-
-  pub function-name : kindOf b n ≡ 4 → refOf b n < names
-  unfolding ruleOf
-  function-name e = rw e at (fields-of .ref)
-
-  pub intrinsic-name : kindOf b n ≡ 15 → refOf b n < names
-  unfolding ruleOf
-  intrinsic-name e = rw e at (fields-of .ref)
 
   pub cast-type : kindOf b n ≡ 8 → refOf b n < types
   unfolding ruleOf

@@ -58,7 +58,7 @@ module _ {A : Type 0} (w : World) (second : Bool) where
 
 -- ---- what a run comes to
 
-abbrev hostIn : Given → Scene → Host Held
+abbrev pub hostIn : Given → Scene → Host Held
 hostIn g x = codeHost (x .world) (g .how .second)
 
 -- what holds unless the code has no room left, from something else that does
@@ -125,11 +125,6 @@ acts {A} {g} {m} {n} {w₀} {o₀} {a₀} {e} {w} {o} {a} p r = record {
 }
 
 -- ---- by what the code tells
-
--- an ending read off a result, where the result is known
-pub read : {A B : Type 0} {g : Given} {m : Scene → Act A} {w₀ o₀ : List ℕ} {a₀ : Counts} {w o : List ℕ} {a : Counts} (f : B → Ending A) {p q : B} → p ≡ q
-    → Runs g m w₀ o₀ a₀ (f p) w o a → Runs g m w₀ o₀ a₀ (f q) w o a
-read {B = B} {g = g} {m = m} {w₀ = w₀} {o₀ = o₀} {a₀ = a₀} {w = w} {o = o} {a = a} f e r = subst (λ (z : B). Runs g m w₀ o₀ a₀ (f z) w o a) e r
 
 -- the same run, told by an equal ending and equal counts
 pub told : {A : Type 0} {g : Given} {m : Scene → Act A} {w₀ o₀ : List ℕ} {a₀ : Counts} {e e′ : Ending A} {w o : List ℕ} {a a′ : Counts} → e′ ≡ e → a′ ≡ a → Runs g m w₀ o₀ a₀ e w o a → Runs g m w₀ o₀ a₀ e′ w o a′

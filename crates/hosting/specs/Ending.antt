@@ -1,9 +1,7 @@
 -- How the code's results read: with what an evaluation ended, or why it ended short. Assumes nothing.
 use mathlib.Core.Bool.{Bool, true, false}
-use mathlib.Core.List.{List}
 use mathlib.Core.Option.{Option, none, some}
 use Prim.Native.Nat.{ℕ, zero, suc}
-use Rattle.value.specs.declared.Ty.{Ty}
 use Rattle.value.specs.declared.Val.{Val}
 use Rattle.value.specs.declared.Answer.{Answer}
 use Rattle.value.specs.declared.Answer.the-variants.{Value, DivisionByZero}
@@ -46,20 +44,6 @@ abbrev pub endOf : Outcome → Ending Val
 endOf (Is v) = ended v
 endOf (Ends s) = short (shortOf s)
 
--- where only that it ended counts
-abbrev pub unitEnd : Outcome → Ending (Unit {0})
-unitEnd (Is v) = ended tt
-unitEnd (Ends s) = short (shortOf s)
-
--- a pointer: the address, and the type of what it points at
-abbrev pub pointerEnd : Outcome → Ty → Ending (Val × Ty)
-pointerEnd (Is v) t = ended (v, t)
-pointerEnd (Ends s) t = short (shortOf s)
-
-abbrev pub filledEnd : Outcome → List Val → Ending (List Val)
-filledEnd (Is v) vs = ended vs
-filledEnd (Ends s) vs = short (shortOf s)
-
 -- ---- what executing tells
 
 abbrev pub noteOf : Note → act.Note
@@ -85,18 +69,3 @@ doneOf (Fails s) = short (shortOf s)
 abbrev pub answerEnd : Answer → Ending Val
 answerEnd (Value v) = ended v
 answerEnd DivisionByZero = short (some byZero)
-
--- the value of an Assign
-abbrev pub valueEnd : Ending ev.Did → Ending Val
-valueEnd (ended d) = ended (ev.valueOf (d .wrote))
-valueEnd (short y) = short y
-
--- the fields are written, or why not
-abbrev pub builtEnd : ℕ → ℕ → Outcome → Ending ev.Did
-builtEnd a n (Is v) = ended (ev.did (act.fieldsWritten a n))
-builtEnd a n (Ends s) = short (shortOf s)
-
--- a value is written, or why not
-abbrev pub writtenEnd : ℕ → Val → Outcome → Ending ev.Did
-writtenEnd a v (Is u) = ended (ev.did (act.valueWritten a v))
-writtenEnd a v (Ends s) = short (shortOf s)

@@ -6,13 +6,12 @@ use mathlib.Core.Option.{Option, none, some}
 use Prim.Native.Nat.{ℕ, _+_, _*_, _<_, _≤_}
 use lib.ListN.{length, getD}
 use Rattle.value.specs.declared.Ty.{Ty}
-use Rattle.value.specs.Value.{type}
 use Rattle.spelling.specs.Spelling.{typeOf, endsStar, beforeStar}
 use Rattle.layout.specs.Format.{whole}
 use Rattle.files.specs.Nodes.{kindOf, refOf}
 use Rattle.files.specs.World.{region, addressIn, sizeIn, bytesFrom}
 use Rattle.definition.specs.Question.{World, addressOf, sizeOf, readAt}
-use Rattle.definition.specs.Evaluate.{Env}
+use Rattle.definition.specs.Evaluate.{Env, typeOr}
 use Rattle.definition.specs.Walk.{followAt}
 use Rattle.index.specs.Texts.{textCount}
 use Rattle.index.specs.Symbols.{SymbolInside, SymbolsIndexed, symbolNamed}
@@ -35,18 +34,13 @@ given n s r h = record { nodes = n; symbols = s; regions = r; how = h }
 
 -- ---- what the code reads by
 
--- what a pointer points at: "type_of" of what is before its star, else 64 bits signed
-abbrev pub typeIf : Option Ty → Ty
-typeIf none = type 64 true
-typeIf (some t) = t
-
 -- the symbol of each Var's name can be read
 pub record SymbolsRead (nodes symbols t : List ℕ) : Type 0 where
   pub inside : (n : ℕ) → n * 20 + 20 ≤ length nodes → kindOf nodes n ≡ 1 → SymbolInside symbols (symbolsPart t) (refOf nodes n)
 
 -- what is pointed at is no wider than a load can be
 pub record Narrow (t : List ℕ) : Type 0 where
-  pub narrow : (i : ℕ) → i < 512 → typeIf (pointeeAt t i) .bits ≤ 64
+  pub narrow : (i : ℕ) → i < 512 → typeOr (pointeeAt t i) .bits ≤ 64
 
 -- the workspace is long enough and in order, and its tables can be read by
 pub record Ready (g : Given) (w : List ℕ) (a : Counts) : Type 0 where

@@ -20,7 +20,9 @@ use Rattle.files.specs.Program.{textsIn}
 use Rattle.index.specs.Places.{placeFrom, textSize}
 use Rattle.index.specs.Texts.{textCount}
 use Rattle.index.proofs.PlaceLaws.{place-strict}
-use Rattle.index.proofs.ItemLaws.{and-l, and-r, every-at, stateFrom}
+use Rattle.files.proofs.BoolLaws.{both}
+use Rattle.files.proofs.ItemLaws.{every-at}
+use Rattle.index.proofs.ItemLaws.{stateFrom}
 use Rattle.index.proofs.TextPlaces.{text-some, text-bytes, name-at, names-texts}
 use Rattle.index.proofs.NameOrder.{before-trans}
 
@@ -68,21 +70,21 @@ module _ (b : List ℕ) (h : 1 ≤ namesIn b) (short : length b < 65536) (bytes 
 module _ (S : List ℕ) (names : ℕ) (h : symbolsOk S names ≡ true) where
   pub symbols-whole : length S % 11 ≡ 0
   unfolding symbolsOk
-  symbols-whole = eqb-true (length S % 11) 0 (and-l (eqb (length S % 11) 0) (every (length S / 11) (symbolOk S names)) h)
+  symbols-whole = eqb-true (length S % 11) 0 (both (eqb (length S % 11) 0) (every (length S / 11) (symbolOk S names)) h .0)
 
   symbol-good : (k : ℕ) → k < length S / 11 → symbolOk S names k ≡ true
   unfolding symbolsOk
-  symbol-good k l = every-at (symbolOk S names) (length S / 11) k (and-r (eqb (length S % 11) 0) (every (length S / 11) (symbolOk S names)) h) l
+  symbol-good k l = every-at (symbolOk S names) (length S / 11) k (both (eqb (length S % 11) 0) (every (length S / 11) (symbolOk S names)) h .1) l
 
   -- a symbol's name is one of the world's
   pub symbol-named : (k : ℕ) → k < length S / 11 → numberAt S (k * 11) 2 < names
-  symbol-named k l = ltb-true _ _ (and-r (leb (leastName S k) (numberAt S (k * 11) 2)) (ltb (numberAt S (k * 11) 2) names) (symbol-good k l))
+  symbol-named k l = ltb-true _ _ (both (leb (leastName S k) (numberAt S (k * 11) 2)) (ltb (numberAt S (k * 11) 2) names) (symbol-good k l) .1)
 
   symbol-next : (k : ℕ) → suc k < length S / 11 → numberAt S (k * 11) 2 < numberAt S (suc k * 11) 2
   unfolding leastName
   symbol-next k l =
       let n = numberAt S (suc k * 11) 2 in
-      omega (arith, leb-true (numberAt S (k * 11) 2 + 1) n (and-l (leb (numberAt S (k * 11) 2 + 1) n) (ltb n names) (symbol-good (suc k) l)))
+      omega (arith, leb-true (numberAt S (k * 11) 2 + 1) n (both (leb (numberAt S (k * 11) 2 + 1) n) (ltb n names) (symbol-good (suc k) l) .0))
 
   pub symbols-ascend : (j k : ℕ) → j < k → k < length S / 11 → numberAt S (j * 11) 2 < numberAt S (k * 11) 2
   symbols-ascend j zero l g = absurd (not-suc-le-zero l)

@@ -8,7 +8,7 @@ use lib.ListN.{length}
 use Rattle.layout.specs.Number.{numberAt, putNumber}
 use Rattle.layout.proofs.NumberLaws.{numberAt-lt}
 use Rattle.index.specs.Places.{placeFrom, blockSize}
-use Rattle.index.specs.Blocks.{blockStart, firstFrom, blockFirst, BlockInside, Blocks, BlocksIndexed, BlockTold, Placed}
+use Rattle.index.specs.Blocks.{blockStart, firstFrom, blockFirst, BlockInside, Blocks, BlocksIndexed, Placed}
 use Rattle.index.proofs.PlaceLaws.{place-next}
 use Rattle.index.proofs.EntryLaws.{Entries, length-put, entries-kept, entries-more}
 use Rattle.index.proofs.BlockPlaces.{first-suc, block-before}
@@ -77,9 +77,6 @@ unfolding blockStart blockFirst placeFrom firstFrom
 blocks-none room = record { here = refl; dealt = refl; most = omega arith; few = omega arith; low = omega arith; room = room; starts = λ k h. absurd (omega arith); firsts = λ k h. absurd (omega arith) }
 
 -- ---- a block that the index finds
-
-pub block-told : {b part : List ℕ} {n k : ℕ} → BlocksIndexed b part n → k < n → BlockTold part k
-block-told all h = record { room = omega (arith, all .room, h) }
 
 pub block-placed : {part : List ℕ} {k s f : ℕ} → s ≡ numberAt part (k * 4) 2 → f ≡ numberAt part (k * 4 + 2) 2 → Placed part k (record { start = s; first = f })
 block-placed {part} {k} p q = record {

@@ -18,10 +18,8 @@ use Rattle.files.specs.Program.{blockAt, blocksFrom, listed}
 use Rattle.index.specs.Places.{placeFrom, blockSize}
 use Rattle.index.specs.Blocks.{blockStart, firstFrom, blockFirst, BlockInside, Blocks}
 use Rattle.index.proofs.PlaceLaws.{place-mono, place-least, place-strict}
-use Rattle.index.proofs.ItemLaws.{and-l, and-r, only-holds, stateFrom, reached}
-
-pub block-some : (b : List ℕ) (i : ℕ) → 24 ≤ blockSize b i
-block-some b i = omega arith
+use Rattle.files.proofs.BoolLaws.{both, only-there}
+use Rattle.index.proofs.ItemLaws.{stateFrom, reached}
 
 block-one : (b : List ℕ) (i : ℕ) → 1 ≤ blockSize b i
 block-one b i = omega arith
@@ -45,8 +43,8 @@ kind-good nodes b i h =
     let t₅ = ltb kind 2 || rootOk nodes (numberAt b (i + 12) 4) in
     let t₆ = leb 1 kind || eqb (numberAt b (i + 16) 4) 0 in
     let t₇ = eqb kind 2 || eqb (numberAt b (i + 20) 4) 0 in
-    let h₄ = and-l (t₁ && t₂ && t₃ && t₄) t₅ (and-l (t₁ && t₂ && t₃ && t₄ && t₅) t₆ (and-l (t₁ && t₂ && t₃ && t₄ && t₅ && t₆) t₇ h)) in
-    leb-true kind 3 (and-l t₁ t₂ (and-l (t₁ && t₂) t₃ (and-l (t₁ && t₂ && t₃) t₄ h₄)))
+    let h₄ = both (t₁ && t₂ && t₃ && t₄) t₅ (both (t₁ && t₂ && t₃ && t₄ && t₅) t₆ (both (t₁ && t₂ && t₃ && t₄ && t₅ && t₆) t₇ h .0) .0) .0 in
+    leb-true kind 3 (both t₁ t₂ (both (t₁ && t₂) t₃ (both (t₁ && t₂ && t₃) t₄ h₄ .0) .0) .0)
 
 tested : (nodes b : List ℕ) (left i : ℕ) → i < length b → (itemAt nodes b left i ≡ 0 → ⊥) → Tested nodes b left i
 unfolding itemAt
@@ -56,16 +54,16 @@ tested nodes b left i h n =
     let t₂ = leb (numberAt b i 2) left in
     let t₃ = blockOk nodes b i in
     let t₄ = leb k (length b - (i + 24)) in
-    let a : (t₁ && t₂ && t₃ && t₄) ≡ true = only-holds (t₁ && t₂ && t₃ && t₄) (k + 24) n in
-    let a₃ = and-l (t₁ && t₂ && t₃) t₄ a in
-    let a₂ = and-l (t₁ && t₂) t₃ a₃ in
-    let g = and-r (t₁ && t₂) t₃ a₃ in
+    let a : (t₁ && t₂ && t₃ && t₄) ≡ true = only-there (t₁ && t₂ && t₃ && t₄) (k + 24) n .0 in
+    let a₃ = both (t₁ && t₂ && t₃) t₄ a .0 in
+    let a₂ = both (t₁ && t₂) t₃ a₃ .0 in
+    let g = both (t₁ && t₂) t₃ a₃ .1 in
     record {
       inside = record {
-        inside = omega (arith, leb-true 24 (length b - i) (and-l t₁ t₂ a₂), leb-true k (length b - (i + 24)) (and-r (t₁ && t₂ && t₃) t₄ a));
+        inside = omega (arith, leb-true 24 (length b - i) (both t₁ t₂ a₂ .0), leb-true k (length b - (i + 24)) (both (t₁ && t₂ && t₃) t₄ a .1));
         kind = kind-good nodes b i g;
       };
-      dealt = leb-true (numberAt b i 2) left (and-r t₁ t₂ a₂);
+      dealt = leb-true (numberAt b i 2) left (both t₁ t₂ a₂ .1);
       good = g;
       sized = ap (λ (t : Bool). only t (k + 24)) a;
     }

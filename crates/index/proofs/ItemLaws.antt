@@ -1,39 +1,14 @@
 -- What a body that a reading accepts has at each place: an item that the state reached there allows. Assumes nothing.
 use mathlib.Core.Path.{_≡_, refl, sym, ap, subst, _∙_}
-use mathlib.Core.Bool.{Bool, true, false, _&&_}
+use mathlib.Core.Bool.{Bool, true, false}
 use Prim.Native.Nat.{ℕ, zero, suc, _+_, _-_, _≤_, _<_}
 use native.Mathlib.Nat.{not-suc-le-zero}
 use native.Mathlib.Omega.{arith}
 use borrow.Author.Tests.{le-leb, lt-leb, leb-true, leb-false}
 use lib.Dec.{leb}
-use Rattle.files.specs.Bytes.{only}
-use Rattle.files.specs.Items.{Items, past, reading, every}
+use Rattle.files.specs.Items.{Items, past, reading}
 use Rattle.index.specs.Places.{placeFrom}
 use Rattle.index.proofs.PlaceLaws.{place-mono}
-
--- ---- tests that hold together
-
-pub and-l : (a b : Bool) → (a && b) ≡ true → a ≡ true
-and-l true b h = refl
-and-l false b h = h
-
-pub and-r : (a b : Bool) → (a && b) ≡ true → b ≡ true
-and-r true b h = h
-and-r false true h = refl
-and-r false false h = h
-
-pub only-holds : (t : Bool) (v : ℕ) → (only t v ≡ 0 → ⊥) → t ≡ true
-only-holds true v h = refl
-only-holds false v h = absurd (h refl)
-
-pub every-at : (P : ℕ → Bool) (n k : ℕ) → every n P ≡ true → k < n → P k ≡ true
-unfolding every
-every-at P zero k e h = absurd (not-suc-le-zero h)
-every-at P (suc n) k e h = go (leb n k) refl (every-at P n k (and-l (every n P) (P n) e))
-  where
-    go : (t : Bool) → leb n k ≡ t → (k < n → P k ≡ true) → P k ≡ true
-    go true p ih = let q : n ≡ k = omega (arith, leb-true n k p) in rw q at (and-r (every n P) (P n) e)
-    go false p ih = ih (leb-false n k p)
 
 -- ---- readings
 

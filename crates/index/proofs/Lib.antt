@@ -18,4 +18,3 @@ pub mod RegionIndex
 pub mod NumberBytes
 pub mod RegionRead
 pub mod Accepted
-pub mod Lookups

@@ -20,7 +20,8 @@ use Rattle.files.specs.World.{Region, region}
 use Rattle.index.specs.Places.{placeFrom, regionSize}
 use Rattle.index.specs.Regions.{regionCount, regionPlace, startAt, endAt, RegionInside, Regions}
 use Rattle.index.proofs.PlaceLaws.{place-strict}
-use Rattle.index.proofs.ItemLaws.{and-l, and-r, only-holds, stateFrom, reached, finishes}
+use Rattle.files.proofs.BoolLaws.{both, only-there}
+use Rattle.index.proofs.ItemLaws.{stateFrom, reached, finishes}
 use Rattle.index.proofs.BodyLaws.{whole-length, whole-at, reads-rest, reads-length, reads-bytes, drop-to}
 
 region-some : (b : List ℕ) (i : ℕ) → 1 ≤ regionSize b i
@@ -90,18 +91,18 @@ tested b s i h n =
     let t₃ = leb 1 size in
     let t₄ = leb (numberAt b i 8 + size) (2 ^ 64) in
     let t₅ = leb size (length b - (i + 12)) in
-    let a : (t₁ && t₂ && t₃ && t₄ && t₅) ≡ true = only-holds (t₁ && t₂ && t₃ && t₄ && t₅) (size + 12) n in
-    let a₄ = and-l (t₁ && t₂ && t₃ && t₄) t₅ a in
-    let a₃ = and-l (t₁ && t₂ && t₃) t₄ a₄ in
-    let a₂ = and-l (t₁ && t₂) t₃ a₃ in
-    let l : 1 ≤ size = leb-true 1 size (and-r (t₁ && t₂) t₃ a₃) in
+    let a : (t₁ && t₂ && t₃ && t₄ && t₅) ≡ true = only-there (t₁ && t₂ && t₃ && t₄ && t₅) (size + 12) n .0 in
+    let a₄ = both (t₁ && t₂ && t₃ && t₄) t₅ a .0 in
+    let a₃ = both (t₁ && t₂ && t₃) t₄ a₄ .0 in
+    let a₂ = both (t₁ && t₂) t₃ a₃ .0 in
+    let l : 1 ≤ size = leb-true 1 size (both (t₁ && t₂) t₃ a₃ .1) in
     record {
       ok = record {
-        inside = omega (arith, leb-true size (length b - (i + 12)) (and-r (t₁ && t₂ && t₃ && t₄) t₅ a), l);
+        inside = omega (arith, leb-true size (length b - (i + 12)) (both (t₁ && t₂ && t₃ && t₄) t₅ a .1), l);
         some = l;
-        ends = leb-true (numberAt b i 8 + size) (2 ^ 64) (and-r (t₁ && t₂ && t₃) t₄ a₄);
+        ends = leb-true (numberAt b i 8 + size) (2 ^ 64) (both (t₁ && t₂ && t₃) t₄ a₄ .1);
       };
-      after = and-r t₁ t₂ a₂;
+      after = both t₁ t₂ a₂ .1;
       sized = ap (λ (t : Bool). only t (size + 12)) a;
     }
 

@@ -9,10 +9,7 @@ use Rattle.files.specs.World.{Symbol, addressIn, sizeIn, told}
 use Rattle.index.specs.declared.Maybe.the-variants.{Known, Nothing}
 use Rattle.index.specs.Answers.{maybeOf}
 use Rattle.index.specs.Texts.{textCount}
-use Rattle.index.specs.Symbols.{symbolNamed, symbolAt, entrySymbol, SymbolInside, SymbolsIndexed, AddressOf, SizeOf}
-
-pub symbol-inside : {R W S part : List ℕ} {n : ℕ} → SymbolsIndexed R W S part → n < textCount R → SymbolInside S part n
-symbol-inside {R} {W} {S} {part} {n} all h = all .inside n h
+use Rattle.index.specs.Symbols.{symbolNamed, symbolAt, entrySymbol, SymbolsIndexed, AddressOf, SizeOf}
 
 entry-none : (S : List ℕ) (e : ℕ) (f : Option Symbol → Option ℕ) → e ≡ 0 → maybeOf (f none) ≡ maybeOf (f (entrySymbol S e))
 entry-none S e f z = ap (λ (k : ℕ). maybeOf (f (entrySymbol S k))) (sym z)

@@ -15,14 +15,15 @@ use Rattle.layout.specs.Format.{Format, number, counted, reads}
 use Rattle.layout.proofs.NumberLaws.{numberAt-one}
 use Rattle.layout.proofs.StoreLaws.{each-drop}
 use Rattle.files.specs.Bytes.{only, part}
-use Rattle.files.specs.Items.{Items, readFrom, reading}
+use Rattle.files.specs.Items.{Items, readFrom}
 use Rattle.files.specs.Names.{printable, before, Last, last, nameAt, nameItems, namesIn, typeAt, typeItems, typesIn}
 use Rattle.files.specs.Refusal.{namesOf, typesOf}
 use Rattle.files.specs.Program.{textsIn}
 use Rattle.index.specs.Places.{placeFrom, textSize}
 use Rattle.index.specs.Texts.{textCount, Texts}
 use Rattle.index.proofs.PlaceLaws.{place-suc, place-mono, place-strict}
-use Rattle.index.proofs.ItemLaws.{and-l, and-r, only-holds, stateFrom, reached, ended, finishes}
+use Rattle.files.proofs.BoolLaws.{both, only-there}
+use Rattle.index.proofs.ItemLaws.{stateFrom, reached, ended, finishes}
 use Rattle.index.proofs.BodyLaws.{whole-length, whole-at, reads-rest, reads-bytes}
 
 -- ---- the format of a text
@@ -113,15 +114,15 @@ named b s i h n =
     let t₄ = leb k (length b - (i + 1)) in
     let t₅ = printable 0x21 0x7e (part (i + 1) (i + 1 + k) b) in
     let t₆ = before (part (s .from) (s .to) b) (part (i + 1) (i + 1 + k) b) in
-    let a : (t₁ && t₂ && t₃ && t₄ && t₅ && t₆) ≡ true = only-holds (t₁ && t₂ && t₃ && t₄ && t₅ && t₆) (k + 1) n in
-    let a₄ = and-l (t₁ && t₂ && t₃ && t₄) t₅ (and-l (t₁ && t₂ && t₃ && t₄ && t₅) t₆ a) in
-    let a₃ = and-l (t₁ && t₂ && t₃) t₄ a₄ in
-    let l₃ : k ≤ 64 = leb-true k 64 (and-r (t₁ && t₂) t₃ a₃) in
+    let a : (t₁ && t₂ && t₃ && t₄ && t₅ && t₆) ≡ true = only-there (t₁ && t₂ && t₃ && t₄ && t₅ && t₆) (k + 1) n .0 in
+    let a₄ = both (t₁ && t₂ && t₃ && t₄) t₅ (both (t₁ && t₂ && t₃ && t₄ && t₅) t₆ a .0) .0 in
+    let a₃ = both (t₁ && t₂ && t₃) t₄ a₄ .0 in
+    let l₃ : k ≤ 64 = leb-true k 64 (both (t₁ && t₂) t₃ a₃ .1) in
     record {
-      few = ltb-true (s .count) 512 (and-l t₁ t₂ (and-l (t₁ && t₂) t₃ a₃));
-      inside = omega (arith, leb-true k (length b - (i + 1)) (and-r (t₁ && t₂ && t₃) t₄ a₄), h);
+      few = ltb-true (s .count) 512 (both t₁ t₂ (both (t₁ && t₂) t₃ a₃ .0) .0);
+      inside = omega (arith, leb-true k (length b - (i + 1)) (both (t₁ && t₂ && t₃) t₄ a₄ .1), h);
       short = l₃;
-      after = and-r (t₁ && t₂ && t₃ && t₄ && t₅) t₆ a;
+      after = both (t₁ && t₂ && t₃ && t₄ && t₅) t₆ a .1;
       sized = ap (λ (t : Bool). only t (k + 1)) a ∙ ap (λ (m : ℕ). m + 1) (sym (numberAt-one b i h (omega (arith, l₃))));
     }
 
@@ -172,10 +173,10 @@ module _ (b : List ℕ) (n i : ℕ) (h : i < length b) (some : typeAt b n i ≡ 
       let t₂ = leb k 64 in
       let t₃ = leb k (length b - (i + 1)) in
       let t₄ = printable 0x20 0x7e (part (i + 1) (i + 1 + k) b) in
-      let a : (t₁ && t₂ && t₃ && t₄) ≡ true = only-holds (t₁ && t₂ && t₃ && t₄) (k + 1) some in
-      let a₃ = and-l (t₁ && t₂ && t₃) t₄ a in
-      let a₂ = and-l (t₁ && t₂) t₃ a₃ in
-      (ltb-true n 512 (and-l t₁ t₂ a₂), leb-true k 64 (and-r t₁ t₂ a₂), omega (arith, leb-true k (length b - (i + 1)) (and-r (t₁ && t₂) t₃ a₃), h), ap (λ (t : Bool). only t (k + 1)) a)
+      let a : (t₁ && t₂ && t₃ && t₄) ≡ true = only-there (t₁ && t₂ && t₃ && t₄) (k + 1) some .0 in
+      let a₃ = both (t₁ && t₂ && t₃) t₄ a .0 in
+      let a₂ = both (t₁ && t₂) t₃ a₃ .0 in
+      (ltb-true n 512 (both t₁ t₂ a₂ .0), leb-true k 64 (both t₁ t₂ a₂ .1), omega (arith, leb-true k (length b - (i + 1)) (both (t₁ && t₂) t₃ a₃ .1), h), ap (λ (t : Bool). only t (k + 1)) a)
 
   type-sized : typeAt b n i ≡ textSize b i
   type-sized = omega (arith, typed .3, numberAt-one b i h (omega (arith, typed .1)))

@@ -1,8 +1,7 @@
 // The world's symbol of a routine's name. The index: for each name of the routine, in two bytes, 0 for no symbol, else 1 more than the symbol's number.
 ghost use mathlib.Core.Path.{_≡_};
 ghost use Prim.Native.Nat.{_+_, _*_, _≤_, _<_};
-ghost use lib.ListN.{length, getD};
-ghost use Rattle.layout.specs.Number.{numberAt};
+ghost use lib.ListN.{length};
 ghost use Rattle.files.specs.Names.{namesIn};
 ghost use Rattle.index.specs.Places.{placeFrom, textSize};
 ghost use Rattle.index.specs.Symbols.{symbolsRoom, Symbols, Standing, Passed, Sought, SymbolInside, SymbolsIndexed, AddressOf, SizeOf, orderOf};

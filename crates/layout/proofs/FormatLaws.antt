@@ -9,7 +9,7 @@ use lib.Seq.{take-at, drop-at}
 use Rattle.layout.specs.Each.{Each}
 use Rattle.layout.specs.Number.{le, num}
 use Rattle.layout.proofs.NumberLaws.{length-le, num-le, num-take-lt}
-use Rattle.layout.specs.Format.{Format, number, zeroByte, then, pair, via, writes, reads, times, counted, every, whole}
+use Rattle.layout.specs.Format.{Format, number, then, pair, via, writes, reads, times, counted, every, whole}
 
 pub record Sound {A : Type 0} (F : Format A) (P : A → Type 0) : Type 0 where
   pub back : (a : A) → P a → (rest : List ℕ) → F .read (F .write a ++ rest) ≡ (a, rest)
@@ -24,9 +24,6 @@ number-sound k = record {
       (_∙_ (ap num (take-at (le k n) rest k (length-le k n))) (num-le k n h) i, drop-at (le k n) rest k (length-le k n) i);
   fits = λ bs. num-take-lt k bs;
 }
-
-pub zeroByte-sound : Sound zeroByte (λ _. Unit)
-zeroByte-sound = record { back = λ a h rest. refl; fits = λ bs. tt }
 
 abbrev next : {A : Type 0} {B : A → Type 0} → ((a : A) → Format (B a)) → A × List ℕ → ((a : A) × B a) × List ℕ
 next G r = let s = G (r .0) .read (r .1) in ((r .0, s .0), s .1)

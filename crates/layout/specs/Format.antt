@@ -13,10 +13,6 @@ pub record Format (A : Type 0) : Type 0 where
 abbrev pub number : ℕ → Format ℕ
 number k = record { write = le k; read = λ bs. (num (take k bs), drop k bs) }
 
--- no value, one byte 0
-abbrev pub zeroByte : Format (Unit {0})
-zeroByte = record { write = λ _. 0 ∷ []; read = λ bs. (tt, drop 1 bs) }
-
 abbrev pub then : {A : Type 0} {B : A → Type 0} → Format A → ((a : A) → Format (B a)) → Format ((a : A) × B a)
 then F G = record {
   write = λ p. F .write (p .0) ++ G (p .0) .write (p .1);

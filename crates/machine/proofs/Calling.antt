@@ -15,8 +15,8 @@ use Rattle.definition.specs.Act.{Act, done, _>>=_}
 use Rattle.definition.specs.Term.{eval, evals, kid, rest}
 use Rattle.definition.specs.Evaluate.{look, looks, evalAs, call}
 use Rattle.workspace.specs.Parts.{part}
-use Rattle.workspace.specs.Values.{valBytes}
-use Rattle.workspace.proofs.ValueLaws.{length-valBytes}
+use Rattle.value.specs.Encoding.{valBytes}
+use Rattle.value.proofs.EncodingLaws.{length-valBytes}
 use Rattle.hosting.specs.declared.How.{How}
 use Rattle.hosting.specs.declared.Short.{Short}
 use Rattle.machine.specs.declared.Filled.{Filled}

@@ -16,13 +16,13 @@ use Rattle.files.specs.Nodes.{kindOf, refOf}
 use Rattle.files.specs.Program.{Tree, tree, Trees, nodeAt}
 use Rattle.definition.specs.Act.{Act, done, _>>=_}
 use Rattle.definition.specs.Term.{Term, eval, kid, kids}
-use Rattle.definition.specs.Evaluate.{Env, look, evalAs, pointer, pointeeOf, loadThrough}
+use Rattle.definition.specs.Evaluate.{Env, look, evalAs, pointer, pointeeOf, loadThrough, typeOr}
 use Rattle.workspace.specs.Parts.{tables}
 use Rattle.workspace.specs.Types.{pointeeAt}
 use Rattle.hosting.specs.declared.How.{How}
 use Rattle.hosting.specs.declared.Short.{Short}
 use Rattle.operations.specs.declared.places.Target.{Target}
-use Rattle.hosting.specs.Scene.{Given, given, Scene, Meant, typeIf, pointee}
+use Rattle.hosting.specs.Scene.{Given, given, Scene, Meant, pointee}
 use Rattle.hosting.specs.Stands.{Stands, stands, Shape, a-cast, a-deref, Fine}
 use Rattle.hosting.specs.Ending.{ended, short, shortOf}
 use Rattle.operations.specs.Registers.{shortIn, resultIn, endBy, endIn}
@@ -95,13 +95,13 @@ module _ {b s r : List ℕ} {n : ℕ} {w₀ o₀ : List ℕ} (v : Val) (y : Shor
 
   pointer-as : {t : Tree} (q : Bool) (z : Option Ty) → pointeeIn b w₀ n ≡ z → Stands b n t
       → ((u : Tree) → Stands b (underIf z n) u → Goes (given b s r) (λ x. eval (look (x .env) u)) w₀ o₀ (endBy q v y) w o)
-      → Goes (given b s r) (λ x. pointerAs (look (x .env) t) z) w₀ o₀ (endBy {A = Val × Ty} q (v, typeIf z) y) w o
+      → Goes (given b s r) (λ x. pointerAs (look (x .env) t) z) w₀ o₀ (endBy {A = Val × Ty} q (v, typeOr z) y) w o
   pointer-as q none e h f = typed v y (type 64 true) q (f _ h)
   pointer-as q (some ty) e (stands {ts = ts} i h) f = pointer-cast q ty (subst (λ (j : ℕ). Shape b j n ts) (cast-if b w₀ n e) h) f
 
   pointer-on : {t : Tree} (q : Bool) → (kindOf b n ≡ 8 → refOf b n < 512) → Stands b n t
       → ((u : Tree) → Stands b (underIf (pointeeIn b w₀ n) n) u → Goes (given b s r) (λ x. eval (look (x .env) u)) w₀ o₀ (endBy q v y) w o)
-      → Goes (given b s r) (λ x. pointer (x .env) (look (x .env) t)) w₀ o₀ (endBy {A = Val × Ty} q (v, typeIf (pointeeIn b w₀ n)) y) w o
+      → Goes (given b s r) (λ x. pointer (x .env) (look (x .env) t)) w₀ o₀ (endBy {A = Val × Ty} q (v, typeOr (pointeeIn b w₀ n)) y) w o
   pointer-on q l (stands {ts = ts} i h) f =
       acts (λ a x m. pointer-is (x .env) _ ∙ ap (pointerAs _) (pointee-told (given b s r a) w₀ n x m l ts)) (pointer-as q (pointeeIn b w₀ n) refl (stands i h) f)
 

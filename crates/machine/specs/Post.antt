@@ -10,7 +10,7 @@ use Rattle.files.specs.Program.{Tree, Trees}
 use Rattle.definition.specs.Act.{Act, done, fail, unknownAddress, fieldsWritten, _>>_}
 use Rattle.definition.specs.Term.{Terms, eval, evals, kids, count, nothing}
 use Rattle.definition.specs.Evaluate.{Env, Did, did, numberIn, look, looks, execute, assignStruct, assignVal, storeFields}
-use Rattle.workspace.specs.Values.{valueSize}
+use Rattle.value.specs.Encoding.{valueSize}
 use Rattle.hosting.specs.declared.Counts.{Counts}
 use Rattle.hosting.specs.declared.Evaluated.{Evaluated}
 use Rattle.hosting.specs.declared.Executed.{Executed}

@@ -5,7 +5,7 @@ use Prim.Native.Nat.{ℕ, _+_, _-_, _*_, _≤_, _<_}
 use native.Mathlib.Omega.{arith}
 use lib.ListN.{length, drop, length-drop}
 use lib.Seq.{length-take-le, sets, length-sets}
-use Rattle.memory.specs.Entries.{entrySize, entries, piece}
+use Rattle.memory.specs.Entries.{entrySize, piece}
 use Rattle.memory.specs.declared.Move.{Move}
 use Rattle.memory.specs.Post.{SlideBoth, Slid}
 use Rattle.memory.proofs.MoveLaws.{part-at, part-above, part-below}

@@ -12,7 +12,7 @@ use Rattle.layout.specs.Format.{writes}
 use Rattle.layout.proofs.NumberLaws.{le-num}
 use Rattle.layout.proofs.StoreLaws.{each-take, each-drop, sets-append}
 use Rattle.memory.specs.Overlay.{runOf}
-use Rattle.memory.specs.Entries.{entry, entrySize, entries, overwritten}
+use Rattle.memory.specs.Entries.{entry, entrySize, overwritten}
 use Rattle.memory.proofs.RowLaws.{entry-sized}
 use Rattle.memory.proofs.MoveLaws.{slid-none}
 

@@ -1,7 +1,7 @@
 -- What a run has written, ascending by address, as an association list: a byte is found and stored by its address. Assumes nothing.
 use mathlib.Core.List.{List, [], _∷_}
 use mathlib.Core.Option.{Option, none, some}
-use Prim.Native.Nat.{ℕ, zero, suc, _%_, _^_, _<_, compare, Ordering, Ordering·lt, Ordering·eq, Ordering·gt}
+use Prim.Native.Nat.{ℕ, zero, suc, _%_, _^_, _<_, compare, Ordering·lt, Ordering·eq, Ordering·gt}
 use lib.ListN.{drop}
 use Rattle.layout.specs.Each.{Each}
 use Rattle.layout.specs.Number.{num}

@@ -36,7 +36,7 @@ use Rattle.workspace.specs.Registers.{wordAt, valueAt}
 use Rattle.workspace.specs.View.{view, Fit}
 use Rattle.workspace.specs.Post.{SetsWord}
 use Rattle.workspace.proofs.LendLaws.{regions-lent}
-use Rattle.workspace.proofs.ValueLaws.{flag-read}
+use Rattle.value.proofs.EncodingLaws.{flag-read}
 use Rattle.hosting.specs.declared.How.{How}
 use Rattle.hosting.specs.declared.Counts.{Counts}
 use Rattle.hosting.specs.Scene.{Given, given, Scene, Ready, Meant}
@@ -46,7 +46,7 @@ use Rattle.hosting.specs.Runs.{Came, Runs}
 use Rattle.hosting.proofs.Running.{kept-on}
 use Rattle.hosting.proofs.Keeping.{kept-ready}
 use Rattle.operations.specs.Registers.{countsIn, howIn, resultIn, endIn}
-use Rattle.operations.specs.Going.{ReadyIn, Goes}
+use Rattle.operations.specs.Going.{Goes}
 use Rattle.operations.specs.Steps.{Gives}
 use Rattle.operations.specs.Asking.{Sends, Asks, foundVal, LoadsAt, Loads}
 use Rattle.operations.proofs.Registers.{stored-word, asked-word, regions-word, second-word, result-value, asked-set, asked-how}

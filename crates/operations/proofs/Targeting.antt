@@ -12,10 +12,11 @@ use Rattle.value.specs.Value.{type}
 use Rattle.spelling.specs.declared.Pointee.{Pointee}
 use Rattle.spelling.specs.declared.Pointee.the-variants.{Of, NoPointer}
 use Rattle.files.specs.Nodes.{kindOf, refOf}
+use Rattle.definition.specs.Evaluate.{typeOr}
 use Rattle.workspace.specs.Parts.{tables}
 use Rattle.workspace.specs.Types.{pointeeAt}
 use Rattle.workspace.specs.Post.{pointeeAs}
-use Rattle.hosting.specs.Scene.{Narrow, typeIf}
+use Rattle.hosting.specs.Scene.{Narrow}
 use Rattle.hosting.specs.Stands.{Fine}
 use Rattle.hosting.proofs.Shapes.{cast-kid}
 use Rattle.operations.specs.declared.places.Target.{Target}
@@ -60,9 +61,9 @@ target-past {b} {w} {n} {t} p = go (pointeeIn b w n) (p .node)
     go (some y) e = omega (arith, e)
 
 pub target-narrow : {b w : List ℕ} {n : ℕ} {t : Target} → Narrow (tables w) → (kindOf b n ≡ 8 → refOf b n < 512) → Targets b w n t → t .ty .bits ≤ 64
-target-narrow {b} {w} {n} {t} r l p = go (eqb (kindOf b n) 8) refl (p .type ∙ ap typeIf (in-is b w n))
+target-narrow {b} {w} {n} {t} r l p = go (eqb (kindOf b n) 8) refl (p .type ∙ ap typeOr (in-is b w n))
   where
-    go : (z : Bool) → eqb (kindOf b n) 8 ≡ z → t .ty ≡ typeIf (pickIf z (pointeeAt (tables w) (refOf b n))) → t .ty .bits ≤ 64
+    go : (z : Bool) → eqb (kindOf b n) 8 ≡ z → t .ty ≡ typeOr (pickIf z (pointeeAt (tables w) (refOf b n))) → t .ty .bits ≤ 64
     go true e q = let h = r .narrow (refOf b n) (l (eqb-true _ _ e)) in omega (arith, ap (λ (y : Ty). y .bits) q, h)
     go false e q = omega (arith, ap (λ (y : Ty). y .bits) q)
 
@@ -82,8 +83,8 @@ pointee-none : (z : Option Ty) → NoPointer ≡ pointeeAs z → z ≡ none
 pointee-none none e = refl
 pointee-none (some u) e = let z : _≡_ {A = ℕ} 0 1 = cc in absurd (omega arith)
 
-targets-as : {b w : List ℕ} {n : ℕ} (r : Target) (z : Option Ty) → pointeeIn b w n ≡ z → r .node ≡ underIf z n → r .ty ≡ typeIf z → Targets b w n r
-targets-as {n = n} r z e p q = record { node = p ∙ ap (λ (y : Option Ty). underIf y n) (sym e); type = q ∙ ap typeIf (sym e) }
+targets-as : {b w : List ℕ} {n : ℕ} (r : Target) (z : Option Ty) → pointeeIn b w n ≡ z → r .node ≡ underIf z n → r .ty ≡ typeOr z → Targets b w n r
+targets-as {n = n} r z e p q = record { node = p ∙ ap (λ (y : Option Ty). underIf y n) (sym e); type = q ∙ ap typeOr (sym e) }
 
 module _ (b w : List ℕ) (n : ℕ) (r : Target) (k : ℕ) (p : k ≡ kindOf b n) where
   pub targets-other : (k ≡ 8 → ⊥) → r .node ≡ n → r .ty ≡ type 64 true → Targets b w n r

@@ -14,7 +14,7 @@ use Rattle.files.specs.Program.{Trees}
 use Rattle.files.specs.Spells.{size}
 use Rattle.definition.specs.Act.{Act, done, fail, unknownAddress, Note, noNote, fieldsWritten, valueWritten, Pending, _>>_}
 use Rattle.definition.specs.Memory.{storeVal}
-use Rattle.definition.specs.Evaluate.{Did, did, numberIn, unknownNote}
+use Rattle.definition.specs.Evaluate.{Did, did, numberIn, unknownNote, typeOr}
 use Rattle.workspace.specs.Parts.{notePart, tables}
 use Rattle.workspace.specs.Note.{pendingIn}
 use Rattle.workspace.specs.Types.{pointeeAt}
@@ -25,7 +25,6 @@ use Rattle.hosting.specs.declared.Short.{Short}
 use Rattle.hosting.specs.declared.Evaluated.{Evaluated}
 use Rattle.hosting.specs.declared.Executed.{Executed}
 use Rattle.operations.specs.declared.places.Target.{Target}
-use Rattle.hosting.specs.Scene.{typeIf}
 use Rattle.hosting.specs.Stands.{FieldsAt}
 use Rattle.hosting.specs.declared.Note as host
 use Rattle.hosting.specs.Ending.{Ending, ended, endOf, doneOf, noteOf, answerEnd}
@@ -127,7 +126,7 @@ underIf (some t) n = n + 1
 -- the node that is evaluated for a pointer at node n, and the type of what it points at
 pub record Targets (b w : List ℕ) (n : ℕ) (r : Target) : Type 0 where
   pub node : r .node ≡ underIf (pointeeIn b w n) n
-  pub type : r .ty ≡ typeIf (pointeeIn b w n)
+  pub type : r .ty ≡ typeOr (pointeeIn b w n)
 
 -- the pointer of a struct's store without one Cast
 unfoldable pub baseAt : List ℕ → ℕ → ℕ

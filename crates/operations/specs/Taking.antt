@@ -17,7 +17,7 @@ use Rattle.definition.specs.Term.{Term, Terms, noTerms, moreTerms, kid, kids, r
 use Rattle.definition.specs.Evaluate.{Env, look, looks, followed, takenBy, takeAll}
 use Rattle.workspace.specs.Parts.{part, tables, notePart, registersPart}
 use Rattle.workspace.specs.Note.{pendingIn, Open}
-use Rattle.workspace.specs.Values.{value, valBytes, valueSize, Whole}
+use Rattle.value.specs.Encoding.{val, valBytes, valueSize, Whole}
 use Rattle.workspace.specs.Types.{declaredAt}
 use Rattle.workspace.specs.View.{View, view, Fit, setting, leaving, noting}
 use Rattle.hosting.specs.Scene.{given}
@@ -30,7 +30,7 @@ use Rattle.operations.specs.Going.{Goes}
 
 -- n values from value k on
 pub record ValuesIn (s : List ℕ) (k n : ℕ) (vs : List Val) : Type 0 where
-  pub bytes : part (k * valueSize) (n * valueSize) s ≡ writes value vs
+  pub bytes : part (k * valueSize) (n * valueSize) s ≡ writes val vs
   pub many : length vs ≡ n
   pub whole : Each Whole vs
 

@@ -28,7 +28,7 @@ pub fn put_val(vals: &mut [u8], k: usize, v: Val)
     requires { ⌜ length (now vals) ≡ 224 ⌝ }
     ensures { λ _. ⌜ PutsVal (now (vals .entry)) k v (now (vals .exit)) ⌝ }
 {
-    variables::put_val(vals, k * VALUE, v);
+    value::encoding::put_val(vals, k * VALUE, v);
 }
 
 // `call` is asked, if the callee is a FunctionName and the depth limit lets it be. The world answers none.

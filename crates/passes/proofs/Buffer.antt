@@ -7,12 +7,11 @@ use native.Mathlib.Omega.{arith}
 use lib.ListN.{length, drop, length-drop}
 use lib.Seq.{sets, sets-eq, length-take-le}
 use borrow.Rule.Slice.PartMut.{midOf, putMid}
-use Rattle.value.specs.declared.Val.{Val}
 use Rattle.layout.proofs.StoreLaws.{put-sets}
 use Rattle.memory.specs.Overlay.{Overlay, Cell}
-use Rattle.memory.specs.Entries as entries
 use Rattle.memory.proofs.PartLaws.{length-entries}
-use Rattle.definition.specs.Record.{stopBody, countsBody, variablesBody, memoryBody}
+use Rattle.memory.specs.Entries.{entry, memoryBody}
+use Rattle.definition.specs.Record.{stopBody, countsBody, variablesBody}
 use Rattle.workspace.specs.Parts.{framePart, memoryPart}
 use Rattle.workspace.specs.Variables as frame
 use Rattle.workspace.specs.View.{view}
@@ -20,7 +19,7 @@ use Rattle.workspace.proofs.CopyLaws.{length-body}
 use Rattle.stream.specs.declared.StopPiece.{StopPiece}
 use Rattle.stream.specs.declared.Lengths.{Lengths}
 use Rattle.stream.specs.Bodies.{stopBytes, stopFrom, pairsOf, lengthsOf}
-use Rattle.stream.proofs.RecordLaws.{length-stop, length-counts}
+use Rattle.definition.proofs.Record.{stop-length, counts-length}
 use Rattle.hosting.specs.declared.Stop.{Stop}
 use Rattle.statements.specs.Telling.{Tells}
 use Rattle.passes.specs.Writing.{PutsStop}
@@ -43,11 +42,11 @@ rest-stored s x b v n l h e =
 
 pub stop-put : (s x : List ℕ) (limit : ℕ) (stop : Stop) (p : StopPiece) → 99 ≤ length s → Tells limit stop p → x ≡ sets (midOf 48 39 s) 0 (stopBytes (stopFrom p)) → PutsStop limit stop s (putMid 48 39 s x)
 stop-put s x limit stop p h t e = record {
-  bytes = λ b q. fixed-stored s x (stopBody b) 48 39 (omega arith) (omega (arith, length-stop b)) (e ∙ ap (sets (midOf 48 39 s) 0) (t .bytes b q));
+  bytes = λ b q. fixed-stored s x (stopBody b) 48 39 (omega arith) (omega (arith, stop-length b)) (e ∙ ap (sets (midOf 48 39 s) 0) (t .bytes b q));
 }
 
 pub counts-put : (s x : List ℕ) (entered recorded : ℕ) → 99 ≤ length s → x ≡ sets (midOf 87 12 s) 0 (countsBody entered recorded) → putMid 87 12 s x ≡ sets s 87 (countsBody entered recorded)
-counts-put s x entered recorded h e = fixed-stored s x (countsBody entered recorded) 87 12 (omega arith) (omega (arith, length-counts entered recorded)) e
+counts-put s x entered recorded h e = fixed-stored s x (countsBody entered recorded) 87 12 (omega arith) (omega (arith, counts-length entered recorded)) e
 
 length-pairs : (l : Lengths) → length (pairsOf 48 (lengthsOf l)) ≡ 48
 unfolding pairsOf
@@ -58,19 +57,8 @@ pairs-put s x l h e = fixed-stored s x (pairsOf 48 (lengthsOf l)) 0 48 (omega ar
 
 -- ---- variables and memory
 
-same-variables : (m : Overlay Val) → frame.variablesBody m ≡ variablesBody m
-unfolding frame.variablesBody variablesBody
-same-variables m = refl
-
-pub length-variables : (m : Overlay Val) → length (variablesBody m) ≡ length m * 16
-length-variables m = ap length (sym (same-variables m)) ∙ length-body m
-
-same-memory : (m : Overlay Cell) → entries.memoryBody m ≡ memoryBody m
-unfolding memoryBody entries.entry
-same-memory m = refl
-
 pub length-memory : (m : Overlay Cell) → length (memoryBody m) ≡ length m * 9
-unfolding memoryBody
+unfolding entry
 length-memory [] = refl
 length-memory (p ∷ m) = omega (arith, length-memory m)
 
@@ -85,16 +73,16 @@ variables-room s w v stored h =
     let m : length (midOf v (length s - v) s) ≡ length s - v = length-take-le (length s - v) (drop v s) (rw length-drop (omega arith)) in omega arith
 
 pub variables-put : (s x w : List ℕ) (v stored : ℕ) → v + length (view w stored .variables) * 16 ≤ length s
-    → x ≡ frame.variablesBody (frame.variablesIn (framePart w)) ++ drop (length (frame.variablesIn (framePart w)) * 16) (midOf v (length s - v) s)
+    → x ≡ variablesBody (frame.variablesIn (framePart w)) ++ drop (length (frame.variablesIn (framePart w)) * 16) (midOf v (length s - v) s)
     → putMid v (length s - v) s x ≡ sets s v (variablesBody (view w stored .variables))
 unfolding view
 variables-put s x w v stored h e =
     let m = frame.variablesIn (framePart w) in
-    rest-stored s x (variablesBody m) v (length m * 16) (sym (length-variables m)) h (e ∙ ap (λ (b : List ℕ). b ++ drop (length m * 16) (midOf v (length s - v) s)) (same-variables m))
+    rest-stored s x (variablesBody m) v (length m * 16) (sym (length-body m)) h e
 
-pub memory-put : (s x w : List ℕ) (v stored : ℕ) → v + stored * 9 ≤ length s → x ≡ entries.memoryBody (view w stored .memory) ++ drop (stored * 9) (midOf v (length s - v) s)
+pub memory-put : (s x w : List ℕ) (v stored : ℕ) → v + stored * 9 ≤ length s → x ≡ memoryBody (view w stored .memory) ++ drop (stored * 9) (midOf v (length s - v) s)
     → putMid v (length s - v) s x ≡ sets s v (memoryBody (view w stored .memory))
 memory-put s x w v stored h e =
     let m = view w stored .memory in
     let l : stored * 9 ≡ length (memoryBody m) = omega (arith, length-memory m, length-stored w stored) in
-    rest-stored s x (memoryBody m) v (stored * 9) l h (e ∙ ap (λ (b : List ℕ). b ++ drop (stored * 9) (midOf v (length s - v) s)) (same-memory m))
+    rest-stored s x (memoryBody m) v (stored * 9) l h e

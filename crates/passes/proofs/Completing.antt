@@ -12,7 +12,8 @@ use Rattle.files.specs.Program.{programOf}
 use Rattle.files.specs.Refusal.{refusal}
 use Rattle.files.proofs.Accepted as accepted
 use Rattle.definition.specs.World.{worldOf}
-use Rattle.definition.specs.Record.{Ran, stopBody, countsBody, stepsBody, variablesBody, memoryBody, questionsBody, recordBytes}
+use Rattle.memory.specs.Entries.{memoryBody}
+use Rattle.definition.specs.Record.{Ran, stopBody, countsBody, stepsBody, variablesBody, questionsBody, recordBytes}
 use Rattle.definition.specs.Run.{ran}
 use Rattle.definition.proofs.Walked.{walks}
 use Rattle.workspace.specs.View.{view}
@@ -25,7 +26,8 @@ use Rattle.hosting.specs.declared.Stop.{Stop}
 use Rattle.hosting.specs.Walking.{stopEnd}
 use Rattle.passes.specs.Passing.{Holds, SecondPassed}
 use Rattle.passes.specs.Writing.{Exact, PutsStop, PutsFixed, Laid, PutsBodies, Ended, Completes}
-use Rattle.passes.proofs.Buffer.{length-variables, length-memory, length-stored}
+use Rattle.workspace.proofs.CopyLaws.{length-body}
+use Rattle.passes.proofs.Buffer.{length-memory, length-stored}
 
 -- ---- two bodies one after the other
 
@@ -70,7 +72,7 @@ laid routine world call b₀ b₁ w q a l ok s e =
     let k : length b₁ ≡ length b₀ = ap length (s .written) ∙ length-sets b₀ q (questionsBody (R .questions)) in
     record {
       fit = h .fit;
-      variables = e .variables ∙ length-variables (R .variables) ∙ ap (λ (m : Overlay Val). length m * 16) (sym (h .variables));
+      variables = e .variables ∙ length-body (R .variables) ∙ ap (λ (m : Overlay Val). length m * 16) (sym (h .variables));
       memory = omega (arith, e .memory, length-memory (R .memory), length-stored w (a .stored), ap (λ (c : Overlay Cell). length c) (h .memory));
       units = few-units routine world call w a ok h;
       in-buffer = omega (arith, e .in-buffer, k);

@@ -11,7 +11,8 @@ use lib.Dec.{leb}
 use borrow.Author.Tests.{lt-leb, leb-true, leb-false}
 use Rattle.value.specs.declared.Val.{Val}
 use Rattle.memory.specs.Overlay.{Overlay, Cell}
-use Rattle.definition.specs.Record.{Ran, stepsBody, variablesBody, memoryBody, questionsBody, recordBytes}
+use Rattle.memory.specs.Entries.{memoryBody}
+use Rattle.definition.specs.Record.{Ran, stepsBody, variablesBody, questionsBody, recordBytes}
 use Rattle.definition.specs.Run.{addressLimit}
 use Rattle.workspace.specs.Parts.{framePart}
 use Rattle.workspace.specs.Variables.{slotAt, entryIf, those, nameLimit, variablesIn}
@@ -22,7 +23,8 @@ use Rattle.stream.proofs.RecordLaws.{length-record}
 use Rattle.hosting.specs.declared.Counts.{Counts}
 use Rattle.passes.specs.Passing.{Holds}
 use Rattle.passes.specs.Writing.{Measured, fitsIn, Exact}
-use Rattle.passes.proofs.Buffer.{length-variables, length-memory, length-stored}
+use Rattle.workspace.proofs.CopyLaws.{length-body}
+use Rattle.passes.proofs.Buffer.{length-memory, length-stored}
 
 -- ---- measured
 
@@ -88,7 +90,7 @@ module _ (R : Ran) (w : List ℕ) (a : Counts) (l : Lengths) (n : ℕ) (h : Hold
   questions = questionsBody (R .questions)
 
   variables-is : l .variables ≡ length (variablesBody (R .variables))
-  variables-is = m .variables ∙ ap (λ (v : Overlay Val). length v * 16) (h .variables) ∙ sym (length-variables (R .variables))
+  variables-is = m .variables ∙ ap (λ (v : Overlay Val). length v * 16) (h .variables) ∙ sym (length-body (R .variables))
 
   memory-is : l .memory ≡ length (memoryBody (R .memory))
   memory-is = omega (arith, m .memory, length-stored w (a .stored), ap (λ (v : Overlay Cell). length v) (h .memory), length-memory (R .memory))

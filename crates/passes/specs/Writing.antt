@@ -7,7 +7,8 @@ use lib.ListN.{length, drop}
 use lib.Seq.{sets}
 use lib.Dec.{leb}
 use Rattle.definition.specs.Statements.{Stop}
-use Rattle.definition.specs.Record.{Ran, stopBody, countsBody, stepsBody, variablesBody, memoryBody, questionsBody, recordBytes}
+use Rattle.memory.specs.Entries.{memoryBody}
+use Rattle.definition.specs.Record.{Ran, stopBody, countsBody, stepsBody, variablesBody, questionsBody, recordBytes}
 use Rattle.workspace.specs.View.{view, Fit}
 use Rattle.stream.specs.declared.Lengths.{Lengths}
 use Rattle.stream.specs.Bodies.{pairsOf, lengthsOf, lastEnd}

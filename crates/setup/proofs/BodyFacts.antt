@@ -21,7 +21,8 @@ use Rattle.index.specs.Texts.{Texts, textCount}
 use Rattle.index.specs.Symbols.{Symbols}
 use Rattle.index.specs.Regions.{Regions}
 use Rattle.index.specs.Blocks.{Blocks}
-use Rattle.index.proofs.Accepted.{body-short, routine-ok, routine-types, routine-blocks, world-symbols, world-regions}
+use Rattle.files.proofs.Accepted.{body-short}
+use Rattle.index.proofs.Accepted.{names-read, types-read, routine-types, routine-blocks, world-symbols, world-regions}
 use Rattle.index.proofs.RegionPlaces.{regions-accepted}
 use Rattle.index.proofs.TextPlaces.{types-count}
 use Rattle.hosting.specs.declared.Facts.{Facts}
@@ -33,7 +34,7 @@ use Rattle.setup.proofs.HeadLaws.{has, heads}
 
 module _ (r : List ℕ) (h : routineRefusal r ≡ 0) {b : List ℕ} where
   pub names-good : b ≡ body r 0 → 1 ≤ namesIn b
-  names-good e = subst (λ (l : List ℕ). 1 ≤ namesIn l) (sym e) (routine-ok r h .names)
+  names-good e = subst (λ (l : List ℕ). 1 ≤ namesIn l) (sym e) (names-read r h)
 
   pub names-short : b ≡ body r 0 → length b < 65536
   names-short e = subst (λ (l : List ℕ). length l < 65536) (sym e) (body-short r 0)
@@ -50,7 +51,7 @@ module _ (r : List ℕ) (h : routineRefusal r ≡ 0) {b : List ℕ} where
   pub return-type : {d : List ℕ} {i : ℕ} → b ≡ body r 1 → d ≡ body r 2 → i ≡ numberAt d 10 2 → i < textCount b
   return-type {i = i} e f g =
       subst (λ (l : List ℕ). i < textCount l) (sym e)
-      (omega (arith, g ∙ ap (λ (l : List ℕ). numberAt l 10 2) f, has r h .type, types-count (body r 1) (routine-ok r h .types)))
+      (omega (arith, g ∙ ap (λ (l : List ℕ). numberAt l 10 2) f, has r h .type, types-count (body r 1) (types-read r h)))
 
   pub blocks-good : b ≡ body r 5 → Blocks b
   blocks-good e = subst Blocks (sym e) (routine-blocks r h)

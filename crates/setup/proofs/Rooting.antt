@@ -22,7 +22,7 @@ use Rattle.index.specs.Symbols.{SymbolsIndexed}
 use Rattle.index.specs.Regions.{RegionsIndexed}
 use Rattle.index.specs.Blocks.{BlocksIndexed}
 use Rattle.index.proofs.TextPlaces.{names-count, types-count}
-use Rattle.index.proofs.Accepted.{routine-ok, routine-names, routine-types, routine-statements, routine-block}
+use Rattle.index.proofs.Accepted.{names-read, types-read, routine-names, routine-types, routine-statements, routine-block}
 use Rattle.workspace.specs.Parts.{tables, symbolsPart, regionsPart, blocksPart}
 use Rattle.workspace.specs.Types.{typeAt, pointeeAt, declaredAt}
 use Rattle.workspace.specs.View.{Fit}
@@ -41,10 +41,10 @@ use Rattle.setup.proofs.Standing.{root-stands}
 module _ (r : List ℕ) (h : routineRefusal r ≡ 0) where
   -- "at most 512" names and types
   pub few-names : namesOf (body r 0) ≤ 512
-  few-names = omega (arith, routine-names r h .few, names-count (body r 0) (routine-ok r h .names))
+  few-names = omega (arith, routine-names r h .few, names-count (body r 0) (names-read r h))
 
   pub few-types : typesOf (body r 1) ≤ 512
-  few-types = omega (arith, routine-types r h .few, types-count (body r 1) (routine-ok r h .types))
+  few-types = omega (arith, routine-types r h .few, types-count (body r 1) (types-read r h))
 
   -- ---- trees
 
@@ -63,7 +63,7 @@ module _ (r : List ℕ) (h : routineRefusal r ≡ 0) where
 
   -- a Var's name is one of the routine's
   pub var-named : (n : ℕ) → n * 20 + 20 ≤ length (body r 3) → kindOf (body r 3) n ≡ 1 → refOf (body r 3) n < textCount (body r 0)
-  var-named n l k = omega (arith, var-name (routine-nodes r h) n (omega arith) k, names-count (body r 0) (routine-ok r h .names))
+  var-named n l k = omega (arith, var-name (routine-nodes r h) n (omega arith) k, names-count (body r 0) (names-read r h))
 
   pub symbols-read : (W S t : List ℕ) → SymbolsIndexed (body r 0) W S (symbolsPart t) → SymbolsRead (body r 3) S t
   symbols-read W S t all = record { inside = λ n l k. all .inside (refOf (body r 3) n) (var-named n l k) }

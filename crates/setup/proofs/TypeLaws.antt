@@ -10,9 +10,10 @@ use Rattle.value.specs.declared.Ty.{Ty}
 use Rattle.value.specs.Value.{type}
 use Rattle.spelling.specs.Spelling.{is, isBool, isWideUnsigned, isWideSigned, isShortInt, signedWord, unsignedWord, alone, two, named, pieces, anyUnsigned, baseOf, endsStar, beforeStar, typeOf, pointeeOf}
 use Rattle.spelling.specs.declared.Pointee.the-variants.{Of, NoPointer}
+use Rattle.definition.specs.Evaluate.{typeOr}
 use Rattle.workspace.specs.Types.{Coded, CodedIf, pointeeAt}
 use Rattle.workspace.specs.Post.{pointedAt}
-use Rattle.hosting.specs.Scene.{typeIf, pointee, Narrow}
+use Rattle.hosting.specs.Scene.{pointee, Narrow}
 
 either : (t : Bool) {x y : Ty} → Coded x → Coded y → Coded (cond t x y)
 either true p q = p
@@ -77,12 +78,12 @@ coded-pointed s = go (endsStar s) (typeOf (beforeStar s)) (coded (beforeStar s))
     go false x c = tt
 
 -- it is no wider than a load can be
-narrow-pointee : (s : List ℕ) → typeIf (pointee s) .bits ≤ 64
+narrow-pointee : (s : List ℕ) → typeOr (pointee s) .bits ≤ 64
 narrow-pointee s = go (endsStar s) (typeOf (beforeStar s)) (coded (beforeStar s))
   where
-    go : (t : Bool) (x : Ty) → Coded x → typeIf (elim t [ true ↦ some x | false ↦ none ]) .bits ≤ 64
+    go : (t : Bool) (x : Ty) → Coded x → typeOr (elim t [ true ↦ some x | false ↦ none ]) .bits ≤ 64
     go true x c = c .most
     go false x c = omega arith
 
 pub narrow : (types : List (List ℕ)) (t : List ℕ) → ((i : ℕ) → i < 512 → pointeeAt t i ≡ pointee (getD types i [])) → Narrow t
-narrow types t h = record { narrow = λ i l. subst (λ (o : Option Ty). typeIf o .bits ≤ 64) (sym (h i l)) (narrow-pointee (getD types i [])) }
+narrow types t h = record { narrow = λ i l. subst (λ (o : Option Ty). typeOr o .bits ≤ 64) (sym (h i l)) (narrow-pointee (getD types i [])) }

@@ -3,14 +3,13 @@
 use Prim.Native.Nat.{ℕ}
 use Prim.Native.String.{String}
 use mathlib.Core.Path.{_≡_, refl}
-use mathlib.Core.Bool.{Bool, true, false}
+use mathlib.Core.Bool.{true, false}
 use mathlib.Core.List.{List, [], _∷_}
 use Rattle.layout.specs.Text.{text}
 use Rattle.value.specs.declared.Ty.{Ty}
 use Rattle.value.specs.declared.Val.{Val}
 use Rattle.value.specs.declared.BinaryOp.{BinaryOp}
 use Rattle.value.specs.declared.BinaryOp.the-variants.{Add, Div, Mod, Shl, Shr, Less, LogicalAnd}
-use Rattle.value.specs.declared.Answer.{Answer}
 use Rattle.value.specs.declared.Answer.the-variants.{Value}
 use Rattle.value.specs.Value.{type, knownVal, unknownVal}
 use Rattle.value.specs.Operators.{binaryOf, operandsOf, arithmetic, division, order, test, truth, shift}

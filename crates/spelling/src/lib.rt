@@ -1,6 +1,5 @@
 // The type that a spelling names, in the words of C.
 ghost use mathlib.Core.Path.{_≡_};
-ghost use mathlib.Core.Bool.{Bool};
 ghost use Prim.Native.Nat.{_+_, _≤_};
 ghost use lib.ListN.{length, drop};
 ghost use Rattle.value.specs.Value.{type};

@@ -6,7 +6,7 @@ use mathlib.Core.Option.{Option, none, some}
 use Prim.Native.Nat.{ℕ, _<_}
 use lib.ListN.{length}
 use Rattle.definition.specs.Act.{Act, done, leave, emit, pending, End, gave, stopped, try, _>>=_, Step}
-use Rattle.definition.specs.Host.{Host, hosted}
+use Rattle.definition.specs.Host.{hosted}
 use Rattle.definition.specs.Run.{addressLimit}
 use Rattle.definition.specs.Record.{stepFields}
 use Rattle.definition.specs.Statements as statements
@@ -22,16 +22,13 @@ use Rattle.hosting.specs.Scene.{Given, Scene, Ready}
 use Rattle.hosting.specs.Held.{Held, held, codeHost, emitted}
 use Rattle.hosting.specs.Ending.{Ending, ended, short}
 use Rattle.hosting.specs.Runs.{Came, Runs}
-use Rattle.hosting.proofs.Running.{kept-on, goes, halts, acts, told, done-runs, fail-runs}
+use Rattle.hosting.proofs.Running.{hostIn, kept-on, goes, halts, acts, told, done-runs, fail-runs}
 use Rattle.hosting.proofs.Keeping.{kept-ready, kept-meant}
 use Rattle.statements.specs.declared.steps.Site.{Site}
 use Rattle.statements.specs.Endings.{actOf, endEnd, bindEnd, triedEnd}
 use Rattle.statements.specs.Steps.{stepAs}
 use Rattle.statements.specs.Steps.{withRecorded}
 use Rattle.statements.specs.Post.{Sends}
-
-abbrev hostIn : Given → Scene → Host Held
-hostIn g x = codeHost (x .world) (g .how .second)
 
 -- ---- what is made of a value
 

@@ -1,7 +1,7 @@
 -- A statement's step as the code sends it is the definition's. Assumes nothing.
 use mathlib.Core.Path.{_≡_, refl, sym, ap, _∙_, subst}
 use mathlib.Core.Bool.{Bool, true, false, cond}
-use mathlib.Core.List.{List, [], _∷_, _++_, append-nil}
+use mathlib.Core.List.{List, [], _++_, append-nil}
 use mathlib.Core.Option.{none, some}
 use Prim.Native.Nat.{ℕ, zero, suc, _+_, _*_, _≤_, _<_}
 use native.Mathlib.Omega.{arith}
@@ -26,6 +26,7 @@ use Rattle.stream.specs.declared.StepPiece.{StepPiece}
 use Rattle.stream.specs.Stream.{Sent}
 use Rattle.stream.specs.Pieces.{optional, takenCount, takenNames, stepBytes, noteFrom, stepFrom}
 use Rattle.stream.proofs.FieldLaws.{noting, note-none, note-fields, note-value, note-unknown, note-followed, note-taken, step-sent, taken-back}
+use Rattle.stream.proofs.StepLaws.{length-names}
 use Rattle.hosting.specs.declared.Note.{Note}
 use Rattle.hosting.specs.declared.Note.the-variants.{Nothing, Fields, Written, Unknown}
 use Rattle.hosting.specs.declared.Did.{Did}
@@ -82,10 +83,6 @@ module _ (xs : List ℕ) where
   names-length : length (namesBytes xs) ≡ 2 + length (writes (number 2) xs)
   unfolding namesBytes
   names-length = length-append (le 2 (length xs)) (writes (number 2) xs) ∙ ap (λ (n : ℕ). n + length (writes (number 2) xs)) (length-le 2 (length xs))
-
-length-written : (xs : List ℕ) → length (writes (number 2) xs) ≡ 2 * length xs
-length-written [] = refl
-length-written (x ∷ xs) = omega (arith, length-written xs)
 
 -- names that were read are names that can be written
 reads-below : (k : ℕ) (s : List ℕ) → Each (Below 2) (reads (number 2) k s .0)
@@ -151,7 +148,7 @@ unfolding pieceOf
 names-fit site did {s} count xs {names} made left bytes few =
     let t : takenCount (s .note .taken) names ≡ length xs = ap (λ (z : StepPiece). takenCount (z .note .taken) names) made ∙ ap (λ (z : NotePiece). takenCount (z .taken) names) left
     ∙ ap (takenCount true) bytes ∙ names-count xs (omega arith) in
-    omega (arith, t, ap length bytes, names-length xs, length-written xs)
+    omega (arith, t, ap length bytes, names-length xs, length-names xs)
 
 pub names-none : (site : Site) (did : Did) {s : StepPiece} {n : NotePiece} (w : List ℕ) → s ≡ pieceOf site did n → OwnNote (did .note) n → workspaceSize ≤ length w
     → 2 + 2 * takenCount (s .note .taken) w ≤ length w

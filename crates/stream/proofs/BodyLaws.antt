@@ -6,11 +6,11 @@ use Prim.Native.Nat.{ℕ, _+_}
 use lib.Seq.{sets}
 use Rattle.value.specs.declared.Val.{Val}
 use Rattle.layout.specs.Number.{le, putNumber}
-use Rattle.definition.specs.Statements.{Stop}
 use Rattle.definition.specs.Record.{countsBody}
 use Rattle.stream.specs.declared.StopPiece.{StopPiece}
 use Rattle.stream.specs.declared.Lengths.{Lengths}
-use Rattle.stream.specs.Pieces.{optional, valueBytes}
+use Rattle.value.specs.Encoding.{valBytes}
+use Rattle.stream.specs.Pieces.{optional}
 use Rattle.stream.specs.Groups.{flaggedBytes, causeBytes, namedBytes}
 use Rattle.stream.specs.Bodies.{stopBytes, stopFrom, pairsOf, lengthsOf}
 use Rattle.stream.proofs.StoreLaws.{two-stored}
@@ -24,10 +24,10 @@ cause-stored s t u w kind reason o p q r =
     two-stored (le 1 kind ++ le 1 reason) (flaggedBytes o) s u w 0 2 (two-stored (le 1 kind) (le 1 reason) s t u 0 1 p q refl) r refl
 
 pub named-stored : (s t u w x : List ℕ) (number node name : ℕ) (v : Val) → t ≡ putNumber s 11 8 number → u ≡ putNumber t 19 4 node → w ≡ putNumber u 23 2 name
-    → x ≡ sets w 25 (valueBytes v) → x ≡ sets s 11 (namedBytes number node name v)
-unfolding putNumber valueBytes namedBytes
+    → x ≡ sets w 25 (valBytes v) → x ≡ sets s 11 (namedBytes number node name v)
+unfolding putNumber valBytes namedBytes
 named-stored s t u w x number node name v p q r e =
-    two-stored (le 8 number ++ le 4 node ++ le 2 name) (valueBytes v) s w x 11 25
+    two-stored (le 8 number ++ le 4 node ++ le 2 name) (valBytes v) s w x 11 25
     (two-stored (le 8 number ++ le 4 node) (le 2 name) s u w 11 23 (two-stored (le 8 number) (le 4 node) s t u 11 19 p q refl) r refl) e refl
 
 pub stop-stored : (s t u : List ℕ) (p : StopPiece) → t ≡ sets s 0 (causeBytes (p .kind) (p .reason) (optional (p .located) (p .address)))

@@ -5,4 +5,3 @@ pub mod StepLaws
 pub mod BodyLaws
 pub mod RecordLaws
 pub mod FieldLaws
-pub mod FitLaws

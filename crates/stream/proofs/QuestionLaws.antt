@@ -1,27 +1,21 @@
 -- The bytes of a question with its answer: their groups, their lengths, and that the body grows by them. Assumes nothing.
-use mathlib.Core.Path.{_≡_, refl, sym, ap, ap₂, _∙_, subst}
-use mathlib.Core.Bool.{Bool, true}
-use mathlib.Core.List.{List, [], _∷_, _++_, append-nil}
+use mathlib.Core.Path.{_≡_, refl, sym, ap, ap₂, _∙_}
+use mathlib.Core.List.{List, _∷_, _++_}
 use mathlib.Core.Option.{Option}
 use Prim.Native.Nat.{ℕ, zero, suc, _+_, _*_, _/_, _%_, _≤_}
 use native.Mathlib.Omega.{arith}
-use lib.ListN.{length, take, drop, length-append}
-use lib.Seq.{sets, length-take-le, take-add, take-at}
+use lib.ListN.{length, take, length-append}
+use lib.Seq.{sets, length-take-le}
 use Rattle.value.specs.declared.Val.{Val}
 use Rattle.layout.specs.Number.{le, putNumber}
 use Rattle.layout.specs.Format.{number, writes}
 use Rattle.layout.proofs.NumberLaws.{length-le}
-use Rattle.layout.proofs.StoreLaws.{take-sets, drop-sets-at}
-use Rattle.layout.proofs.FormatLaws.{writes-append}
-use Rattle.definition.specs.Question.{Entry}
-use Rattle.definition.specs.Fields.{val, codeOf, written, entry}
-use Rattle.definition.specs.Record.{questionsBody}
+use Rattle.value.specs.Encoding.{val}
+use Rattle.definition.specs.Fields.{codeOf}
 use Rattle.stream.specs.declared.Symbol.{Symbol}
 use Rattle.stream.specs.declared.Symbol.the-variants.{AddressOf, SizeOf}
-use Rattle.stream.specs.Pieces.{valueBytes, askedBy, questionBytes, symbolEntry, readEntry, callEntry, callBytes}
+use Rattle.stream.specs.Pieces.{askedBy, questionBytes, symbolEntry, readEntry, callEntry, callBytes}
 use Rattle.stream.specs.Groups.{flaggedBytes, spanBytes, calleeBytes}
-use Rattle.stream.specs.Stream.{placed, advanced, Sent, Counted, Streamed}
-use Rattle.stream.proofs.StreamLaws.{writes-more, streamed-more, counted-more}
 use Rattle.stream.proofs.StoreLaws.{two-stored}
 
 -- ---- kinds 1 and 2
@@ -103,37 +97,3 @@ pub call-bytes : (name address depth count : ℕ) (bytes : List ℕ) (vs : List 
     → callBytes name address depth count bytes ≡ questionBytes (callEntry name address depth vs)
 unfolding questionBytes callBytes
 call-bytes name address depth count bytes vs l e = sym (ap₂ (callBytes name address depth) l (sym e))
-
-pub call-sent : {on : Bool} {out out′ : List ℕ} {at r : ℕ} (name address depth count : ℕ) (bytes : List ℕ) (vs : List Val)
-    → Sent on out at (callBytes name address depth count bytes) out′ r → length vs ≡ count → bytes ≡ writes val vs
-    → Sent on out at (questionBytes (callEntry name address depth vs)) out′ r
-call-sent {on} {out} {out′} {at} {r} name address depth count bytes vs t l e =
-    subst (λ (piece : List ℕ). Sent on out at piece out′ r) (call-bytes name address depth count bytes vs l e) t
-
--- and how they come to be: one value more behind k others
-pub values-more : (area area′ : List ℕ) (vs : List Val) (v : Val) (k : ℕ) → 14 * k + 14 ≤ length area → take (14 * k) area ≡ writes val vs
-    → area′ ≡ sets area (14 * k) (valueBytes v) → take (14 * (k + 1)) area′ ≡ writes val (vs ++ v ∷ [])
-unfolding valueBytes
-values-more area area′ vs v k h e p =
-    let n : 14 * (k + 1) ≡ 14 * k + 14 = omega arith in
-    let b = valueBytes v in
-    let m : drop (14 * k) (sets area (14 * k) b) ≡ b ++ drop (14 * k + 14) area = drop-sets-at b area (14 * k) h in
-    ap₂ take n p
-    ∙ take-add (14 * k) 14 (sets area (14 * k) b)
-    ∙ ap₂ (λ (xs ys : List ℕ). xs ++ ys) (take-sets b area (14 * k) (14 * k) (omega arith) ∙ e) (ap (take 14) m ∙ take-at b (drop (14 * k + 14) area) 14 refl)
-    ∙ ap (λ (r : List ℕ). writes val vs ++ r) (sym (append-nil b))
-    ∙ sym (writes-append val vs (v ∷ []))
-
--- ---- the body
-
--- one question more
-pub questions-more : (es : List Entry) (e : Entry) → questionsBody (es ++ e ∷ []) ≡ questionsBody es ++ questionBytes e
-unfolding questionsBody questionBytes
-questions-more es e = writes-more entry written es e
-
-pub questions-streamed : {old out : List ℕ} {at : ℕ} (es : List Entry) (e : Entry) → Streamed old out at (questionsBody es)
-    → Streamed old (placed true out at (questionBytes e)) (advanced at (length (questionBytes e))) (questionsBody (es ++ e ∷ []))
-questions-streamed es e s = rw (questions-more es e) (streamed-more (questionBytes e) s)
-
-pub questions-counted : {at : ℕ} (es : List Entry) (e : Entry) → Counted at (questionsBody es) → Counted (advanced at (length (questionBytes e))) (questionsBody (es ++ e ∷ []))
-questions-counted es e c = rw (questions-more es e) (counted-more (questionBytes e) c)

@@ -8,8 +8,9 @@ use lib.ListN.{length, drop, set, length-append}
 use lib.Seq.{sets, sets-eq, set-comm}
 use Rattle.layout.specs.Each.{Each}
 use Rattle.layout.specs.Number.{le}
-use Rattle.definition.specs.Statements.{Stop}
-use Rattle.definition.specs.Record.{Ran, stopBody, countsBody, stepsBody, variablesBody, memoryBody, questionsBody, bodies, pairs, layout, recordBytes}
+use Rattle.memory.specs.Entries.{memoryBody}
+use Rattle.definition.specs.Record.{Ran, stopBody, countsBody, stepsBody, variablesBody, questionsBody, bodies, pairs, layout, recordBytes}
+use Rattle.definition.proofs.Record.{stop-length, counts-length}
 use Rattle.stream.specs.declared.Lengths.{Lengths}
 use Rattle.stream.specs.Bodies.{pairsOf, lengthsOf}
 use Rattle.stream.proofs.StoreLaws.{two-stored}
@@ -40,16 +41,6 @@ below-first [] i b l h = refl
 below-first (w ∷ ws) i b l h =
     below-first ws i b (sets l (w .0) (w .1)) (h .1) ∙ ap (λ (t : List ℕ). stores t ws) (sym (sets-swap b (w .1) l i (w .0) (h .0)))
 
--- ---- lengths
-
-pub length-stop : (s : Stop) → length (stopBody s) ≡ 39
-unfolding stopBody
-length-stop s = refl
-
-pub length-counts : (entered recorded : ℕ) → length (countsBody entered recorded) ≡ 12
-unfolding countsBody
-length-counts entered recorded = refl
-
 -- ---- the pairs by the lengths alone
 
 pub pairs-of : (o : ℕ) (bs : List (List ℕ)) → pairsOf o (map length bs) ≡ pairs o bs
@@ -79,8 +70,8 @@ module _ (r : Ran) where
   pub pairs-are : (l : Lengths) → l .steps ≡ length steps → l .variables ≡ length variables → l .memory ≡ length memory → l .questions ≡ length questions
       → pairsOf 48 (lengthsOf l) ≡ pairs 48 (bodies r)
   pairs-are l a b c d =
-      let e = length-stop (r .stop) in
-      let f = length-counts (r .entered) (r .recorded) in
+      let e = stop-length (r .stop) in
+      let f = counts-length (r .entered) (r .recorded) in
       sym (λ i. pairsOf 48 (e i ∷ f i ∷ sym a i ∷ sym b i ∷ sym c i ∷ sym d i ∷ [])) ∙ pairs-of 48 (bodies r)
 
   record-is : recordBytes r ≡ pairs 48 (bodies r) ++ (stop ++ (counts ++ (steps ++ (variables ++ (memory ++ questions)))))
@@ -90,7 +81,7 @@ module _ (r : Ran) where
   pub length-record : length (recordBytes r) ≡ 99 + length steps + length variables + length memory + length questions
   length-record =
       ap length record-is
-      ∙ simp length-append (omega (arith, length-stop (r .stop), length-counts (r .entered) (r .recorded)))
+      ∙ simp length-append (omega (arith, stop-length (r .stop), counts-length (r .entered) (r .recorded)))
 
   module _ (v m q : ℕ) (hv : v ≡ 99 + length steps) (hm : m ≡ v + length variables) (hq : q ≡ m + length memory) (old : List ℕ) where
     abbrev head : List ℕ
@@ -109,8 +100,8 @@ module _ (r : Ran) where
 
     sorted : inOrder ≡ inRow
     sorted =
-        let ls = length-stop (r .stop) in
-        let lc = length-counts (r .entered) (r .recorded) in
+        let ls = stop-length (r .stop) in
+        let lc = counts-length (r .entered) (r .recorded) in
         let l₁ = sets old 0 head in
         let l₃ = sets (sets l₁ 48 stop) 87 counts in
         below-first ((99, steps) ∷ (q, questions) ∷ (48, stop) ∷ (87, counts) ∷ (v, variables) ∷ (m, memory) ∷ []) 0 head old (omega arith, (omega arith, (omega arith, (omega arith, (omega arith, (omega arith, tt))))))
@@ -121,8 +112,8 @@ module _ (r : Ran) where
 
     joined : inRow ≡ sets old 0 (recordBytes r)
     joined =
-        let ls = length-stop (r .stop) in
-        let lc = length-counts (r .entered) (r .recorded) in
+        let ls = stop-length (r .stop) in
+        let lc = counts-length (r .entered) (r .recorded) in
         let l₁ = sets old 0 head in
         let l₂ = sets l₁ 48 stop in
         let l₃ = sets l₂ 87 counts in

@@ -14,14 +14,12 @@ use Rattle.layout.specs.Number.{le, putNumber}
 use Rattle.layout.specs.Format.{number, writes, reads}
 use Rattle.layout.proofs.NumberLaws.{le-num}
 use Rattle.layout.proofs.StoreLaws.{each-take, each-drop, each-byte}
-use Rattle.definition.specs.Act.{Step}
 use Rattle.definition.specs.Fields.{noVal, flagAndNumber}
-use Rattle.definition.specs.Record.{wroteFields, stepFields, stepFormat, stepsBody}
+use Rattle.definition.specs.Record.{wroteFields}
 use Rattle.stream.specs.declared.StepPiece.{StepPiece}
-use Rattle.stream.specs.Pieces.{valueBytes, optional, stepBytes, noteFrom, stepFrom, takenCount, takenNames}
+use Rattle.value.specs.Encoding.{valBytes}
+use Rattle.stream.specs.Pieces.{optional, stepBytes, noteFrom, stepFrom, takenCount, takenNames}
 use Rattle.stream.specs.Groups.{flaggedBytes, placeBytes, wroteBytes, noteBytes, namesBytes}
-use Rattle.stream.specs.Stream.{placed, advanced, Counted, Streamed}
-use Rattle.stream.proofs.StreamLaws.{writes-more, streamed-more, counted-more}
 use Rattle.stream.proofs.StoreLaws.{two-stored}
 
 -- ---- its groups
@@ -32,26 +30,26 @@ unfolding putNumber flaggedBytes placeBytes
 place-stored s t u w at block statement o p q r =
     two-stored (flaggedBytes o ++ le 4 block) (le 4 statement) s u w at (at + 13) (two-stored (flaggedBytes o) (le 4 block) s t u at (at + 9) p q refl) r refl
 
-wrote-bytes : (wrote : Bool) (name : ℕ) (v : Val) → le 1 (boolByte wrote) ++ le 2 (flagAndNumber (optional wrote name) .1) ++ valueBytes (cond wrote v noVal)
+wrote-bytes : (wrote : Bool) (name : ℕ) (v : Val) → le 1 (boolByte wrote) ++ le 2 (flagAndNumber (optional wrote name) .1) ++ valBytes (cond wrote v noVal)
     ≡ wroteBytes (wroteFields (optional wrote (name, v)))
-unfolding valueBytes wroteBytes
+unfolding valBytes wroteBytes
 wrote-bytes true name v = refl
 wrote-bytes false name v = refl
 
 pub wrote-stored : (s t u w : List ℕ) (at : ℕ) (wrote : Bool) (name n : ℕ) (v x : Val) → n ≡ flagAndNumber (optional wrote name) .1 → x ≡ cond wrote v noVal
-    → t ≡ putNumber s at 1 (boolByte wrote) → u ≡ putNumber t (at + 1) 2 n → w ≡ sets u (at + 3) (valueBytes x)
+    → t ≡ putNumber s at 1 (boolByte wrote) → u ≡ putNumber t (at + 1) 2 n → w ≡ sets u (at + 3) (valBytes x)
     → w ≡ sets s at (wroteBytes (wroteFields (optional wrote (name, v))))
 unfolding putNumber
 wrote-stored s t u w at wrote name n v x e f p q r =
-    two-stored (le 1 (boolByte wrote) ++ le 2 n) (valueBytes x) s u w at (at + 3) (two-stored (le 1 (boolByte wrote)) (le 2 n) s t u at (at + 1) p q refl) r refl
-    ∙ ap₂ (λ (m : ℕ) (y : Val). sets s at (le 1 (boolByte wrote) ++ le 2 m ++ valueBytes y)) e f
+    two-stored (le 1 (boolByte wrote) ++ le 2 n) (valBytes x) s u w at (at + 3) (two-stored (le 1 (boolByte wrote)) (le 2 n) s t u at (at + 1) p q refl) r refl
+    ∙ ap₂ (λ (m : ℕ) (y : Val). sets s at (le 1 (boolByte wrote) ++ le 2 m ++ valBytes y)) e f
     ∙ ap (sets s at) (wrote-bytes wrote name v)
 
 pub note-stored : (s t u w x : List ℕ) (at note place count : ℕ) (v : Val) → t ≡ putNumber s at 1 note → u ≡ putNumber t (at + 1) 8 place
-    → w ≡ putNumber u (at + 9) 4 count → x ≡ sets w (at + 13) (valueBytes v) → x ≡ sets s at (noteBytes note place count v)
-unfolding putNumber noteBytes valueBytes
+    → w ≡ putNumber u (at + 9) 4 count → x ≡ sets w (at + 13) (valBytes v) → x ≡ sets s at (noteBytes note place count v)
+unfolding putNumber noteBytes valBytes
 note-stored s t u w x at note place count v p q r e =
-    two-stored (le 1 note ++ le 8 place ++ le 4 count) (valueBytes v) s w x at (at + 13)
+    two-stored (le 1 note ++ le 8 place ++ le 4 count) (valBytes v) s w x at (at + 13)
     (two-stored (le 1 note ++ le 8 place) (le 4 count) s u w at (at + 9) (two-stored (le 1 note) (le 8 place) s t u at (at + 1) p q refl) r refl) e refl
 
 pub names-stored : (s t u names : List ℕ) (at count : ℕ) → 2 + 2 * count ≤ length names → t ≡ putNumber s at 2 count
@@ -81,7 +79,7 @@ pub length-taken : (taken : Bool) (names : List ℕ) → length (takenNames take
 unfolding takenNames
 length-taken taken names = reads-count (takenCount taken names) (drop 2 names)
 
-length-names : (xs : List ℕ) → length (writes (number 2) xs) ≡ 2 * length xs
+pub length-names : (xs : List ℕ) → length (writes (number 2) xs) ≡ 2 * length xs
 length-names [] = refl
 length-names (x ∷ xs) = omega (arith, length-names xs)
 
@@ -125,17 +123,3 @@ module _ (p : StepPiece) (names : List ℕ) where
   unfolding stepBytes noteFrom stepFrom takenNames
   length-step count e =
       omega (arith, length-names (takenNames (p .note .taken) names), reads-count (takenCount (p .note .taken) names) (drop 2 names))
-
--- ---- the body
-
--- one step more
-pub steps-more : (ss : List Step) (s : Step) → stepsBody (ss ++ s ∷ []) ≡ stepsBody ss ++ stepBytes (stepFields s)
-unfolding stepsBody stepBytes
-steps-more ss s = writes-more stepFormat stepFields ss s
-
-pub steps-streamed : {old out : List ℕ} {at : ℕ} (ss : List Step) (s : Step) → Streamed old out at (stepsBody ss)
-    → Streamed old (placed true out at (stepBytes (stepFields s))) (advanced at (length (stepBytes (stepFields s)))) (stepsBody (ss ++ s ∷ []))
-steps-streamed ss s t = rw (steps-more ss s) (streamed-more (stepBytes (stepFields s)) t)
-
-pub steps-counted : {at : ℕ} (ss : List Step) (s : Step) → Counted at (stepsBody ss) → Counted (advanced at (length (stepBytes (stepFields s)))) (stepsBody (ss ++ s ∷ []))
-steps-counted ss s c = rw (steps-more ss s) (counted-more (stepBytes (stepFields s)) c)

@@ -9,33 +9,16 @@ use lib.ListN.{length, take, drop, set, length-drop}
 use lib.Seq.{sets, sets-eq, length-take-le}
 use borrow.Rule.Slice.PartMut.{midOf, putMid}
 use mir.Val.{boolByte}
-use Rattle.value.specs.declared.Val.{Val}
 use Rattle.layout.specs.Number.{le, putNumber}
-use Rattle.layout.specs.Format.{flagOf}
 use Rattle.layout.proofs.StoreLaws.{sets-append, put-sets}
 use Rattle.definition.specs.Fields.{flagAndNumber}
-use Rattle.stream.specs.Pieces.{valueBytes, optional}
+use Rattle.stream.specs.Pieces.{optional}
 use Rattle.stream.specs.Groups.{flaggedBytes}
 
 -- two groups of bytes, one behind the other
 pub two-stored : (xs ys s t u : List ℕ) (i j : ℕ) → t ≡ sets s i xs → u ≡ sets t j ys → j ≡ i + length xs → u ≡ sets s i (xs ++ ys)
 two-stored xs ys s t u i j p q e =
     q ∙ ap (λ (k : ℕ). sets t k ys) e ∙ ap (λ (l : List ℕ). sets l (i + length xs) ys) p ∙ sym (sets-append xs ys s i)
-
-flag-byte : (b : Bool) → boolByte b ≡ flagOf b
-flag-byte true = refl
-flag-byte false = refl
-
-pub value-stored : (s t u w x : List ℕ) (at : ℕ) (v : Val) → t ≡ putNumber s at 1 (boolByte (v .known)) → u ≡ putNumber t (at + 1) 1 (boolByte (v .signed))
-    → w ≡ putNumber u (at + 2) 4 (v .bits) → x ≡ putNumber w (at + 6) 8 (v .number) → x ≡ sets s at (valueBytes v)
-unfolding putNumber valueBytes
-value-stored s t u w x at v p q r e =
-    let a = le 1 (boolByte (v .known)) in
-    let b = le 1 (boolByte (v .signed)) in
-    let f : x ≡ sets s at (a ++ b ++ le 4 (v .bits) ++ le 8 (v .number)) =
-    two-stored (a ++ b ++ le 4 (v .bits)) (le 8 (v .number)) s w x at (at + 6)
-    (two-stored (a ++ b) (le 4 (v .bits)) s u w at (at + 2) (two-stored a b s t u at (at + 1) p q refl) r refl) e refl in
-    f ∙ rw (flag-byte (v .known), flag-byte (v .signed))
 
 -- the flag of an answer that may be none
 flag-of : (known : Bool) (number : ℕ) → boolByte known ≡ flagAndNumber (optional known number) .0

@@ -1,12 +1,11 @@
 -- Streams grow by one piece after the other (`streamed-more`, `counted-more`), and what stands in the part in the end. Assumes nothing.
-use mathlib.Core.Path.{_≡_, refl, sym, ap, _∙_, subst}
+use mathlib.Core.Path.{_≡_, refl, sym, ap, _∙_}
 use mathlib.Core.Bool.{Bool, true, false, cond, _&&_}
 use mathlib.Core.List.{List, [], _∷_, _++_, map, append-assoc, append-nil}
 use Prim.Native.Nat.{ℕ, _+_, _-_, _≤_, _<_}
-use native.Mathlib.Nat.{zero-add}
 use native.Mathlib.Omega.{arith}
 use lib.ListN.{length, drop, length-append, length-drop}
-use lib.Seq.{sets, sets-eq, length-sets, take-at, drop-drop, drop-append-add}
+use lib.Seq.{sets, sets-eq, take-at, drop-drop, drop-append-add}
 use lib.Dec.{leb}
 use borrow.Author.Tests.{le-leb, lt-leb, leb-true, leb-false}
 use Rattle.layout.specs.Format.{Format, writes}
@@ -21,11 +20,6 @@ placed-off out at piece = refl
 pub placed-fits : (out : List ℕ) (at : ℕ) (piece : List ℕ) → at + length piece ≤ length out → placed true out at piece ≡ sets out at piece
 unfolding placed
 placed-fits out at piece h = rw (le-leb (at + length piece) (length out) h)
-
-pub placed-past : (on : Bool) (out : List ℕ) (at : ℕ) (piece : List ℕ) → length out < at + length piece → placed on out at piece ≡ out
-unfolding placed
-placed-past true out at piece h = rw (lt-leb (at + length piece) (length out) h)
-placed-past false out at piece h = refl
 
 -- the code: whether a piece of n bytes goes in is b
 pub piece-room : (on : Bool) (at n l : ℕ) (b : Bool) → b ≡ (on && leb (at + n) l) → b ≡ true → at + n ≤ l
@@ -65,14 +59,6 @@ room true at n l h =
     (λ e. le-leb (at + n) l (let f : at ≤ l - n = leb-true at (l - n) e in omega arith))
     (λ e. lt-leb (at + n) l (let f : l - n < at = leb-false at (l - n) e in omega arith))
 
-same-length : (b : Bool) (out : List ℕ) (at : ℕ) (piece : List ℕ) → length (cond b (sets out at piece) out) ≡ length out
-same-length true out at piece = length-sets out at piece
-same-length false out at piece = refl
-
-pub length-placed : (on : Bool) (out : List ℕ) (at : ℕ) (piece : List ℕ) → length (placed on out at piece) ≡ length out
-unfolding placed
-length-placed on out at piece = same-length (on && leb (at + length piece) (length out)) out at piece
-
 -- ---- a pass that counts
 
 pub counted-start : Counted 0 []
@@ -81,10 +67,6 @@ counted-start = record { cursor = omega arith }
 pub counted-more : {at : ℕ} {bytes : List ℕ} (piece : List ℕ) → Counted at bytes → Counted (advanced at (length piece)) (bytes ++ piece)
 unfolding advanced
 counted-more {at} {bytes} piece c = record { cursor = omega (arith, length-append bytes piece) }
-
--- a cursor below the most tells the length
-pub cursor-tells : {at : ℕ} {bytes : List ℕ} → Counted at bytes → at < most → at ≡ length bytes
-cursor-tells c h = omega arith
 
 -- ---- a pass that writes
 
@@ -114,24 +96,6 @@ streamed-more {old} {out} {bytes} {at} piece s = record {
       ∙ ap (λ (o : List ℕ). sets o (length bytes) piece) b
       ∙ put-behind old bytes piece k;
 }
-
--- what a writer of a piece does to a stream, and to a count
-pub sent-streamed : {old out out′ bytes piece : List ℕ} {at at′ : ℕ} → Sent true out at piece out′ at′ → Streamed old out at bytes → Streamed old out′ at′ (bytes ++ piece)
-sent-streamed {old} {out} {out′} {bytes} {piece} {at} {at′} t s =
-    let m = streamed-more piece s in
-    subst (λ (o : List ℕ). Streamed old o at′ (bytes ++ piece)) (sym (t .part)) (subst (λ (k : ℕ). Streamed old (placed true out at piece) k (bytes ++ piece)) (sym (t .cursor)) m)
-
-pub sent-counted : {on : Bool} {out out′ bytes piece : List ℕ} {at at′ : ℕ} → Sent on out at piece out′ at′ → Counted at bytes → Counted at′ (bytes ++ piece)
-sent-counted {on} {out} {out′} {bytes} {piece} t c = subst (λ (k : ℕ). Counted k (bytes ++ piece)) (sym (t .cursor)) (counted-more piece c)
-
-pub sent-off : {out out′ piece : List ℕ} {at at′ : ℕ} → Sent false out at piece out′ at′ → out′ ≡ out
-sent-off {out} {out′} {piece} {at} t = t .part ∙ placed-off out at piece
-
--- in the end: where the cursor is within the part, the part holds all that was sent
-pub streamed-whole : {old out bytes : List ℕ} {at : ℕ} → Streamed old out at bytes → at ≤ length old → out ≡ sets old 0 bytes
-streamed-whole {old} {out} {bytes} {at} s h =
-    let e : at ≡ length bytes = omega arith in
-    s .begun (omega arith) ∙ sym (sets-eq bytes old 0 (omega arith) ∙ rw zero-add)
 
 -- ---- a body of one format: one piece more
 

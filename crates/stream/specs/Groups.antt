@@ -6,7 +6,8 @@ use lib.ListN.{take, drop}
 use Rattle.value.specs.declared.Val.{Val}
 use Rattle.layout.specs.Number.{le}
 use Rattle.layout.specs.Format.{number, flag, pair}
-use Rattle.definition.specs.Fields.{val, flagAndNumber}
+use Rattle.value.specs.Encoding.{val}
+use Rattle.definition.specs.Fields.{flagAndNumber}
 use Rattle.definition.specs.Record.{WroteFields}
 
 -- "flag u8", then a u64: both 0 for none

@@ -8,16 +8,12 @@ use Rattle.value.specs.declared.Val.{Val}
 use Rattle.layout.specs.Number.{le, numberAt}
 use Rattle.layout.specs.Format.{number, reads}
 use Rattle.definition.specs.Question.{Asked, addressOf, sizeOf, readAt, callTo, Entry}
-use Rattle.definition.specs.Fields.{val, flagAndNumber, written, entry}
+use Rattle.definition.specs.Fields.{flagAndNumber, written, entry}
 use Rattle.definition.specs.Record.{wroteFields, NoteFields, StepFields, stepFormat}
 use Rattle.stream.specs.declared.Symbol.{Symbol}
 use Rattle.stream.specs.declared.Symbol.the-variants.{AddressOf, SizeOf}
 use Rattle.stream.specs.declared.NotePiece.{NotePiece}
 use Rattle.stream.specs.declared.StepPiece.{StepPiece}
-
--- "A value is 14 bytes"
-unfoldable pub valueBytes : Val → List ℕ
-valueBytes v = val .write v
 
 -- what is there if its flag is set
 abbrev pub optional : {A : Type 0} → Bool → A → Option A

@@ -6,11 +6,11 @@ ghost use Prim.Native.Nat.{_+_, _*_, _≤_, _<_};
 ghost use lib.ListN.{length, take};
 ghost use lib.Seq.{sets};
 ghost use lib.Dec.{leb};
-ghost use Rattle.layout.specs.Number.{le, numberAt};
+ghost use Rattle.layout.specs.Number.{le};
 ghost use Rattle.definition.specs.Fields.{noVal, flagAndNumber, codeOf};
 ghost use Rattle.definition.specs.Record.{wroteFields, countsBody};
-ghost use Rattle.stream.specs.Stream.{placed, advanced, Sent};
-ghost use Rattle.stream.specs.Pieces.{valueBytes, optional, askedBy, questionBytes, symbolEntry, readEntry, callBytes, takenCount, stepBytes, stepFrom};
+ghost use Rattle.stream.specs.Stream.{advanced, Sent};
+ghost use Rattle.stream.specs.Pieces.{optional, askedBy, questionBytes, symbolEntry, readEntry, callBytes, takenCount, stepBytes, stepFrom};
 ghost use Rattle.stream.specs.Groups.{flaggedBytes, spanBytes, calleeBytes, placeBytes, wroteBytes, noteBytes, namesBytes, causeBytes, namedBytes};
 ghost use Rattle.stream.specs.Bodies.{stopBytes, stopFrom, pairsOf, lengthsOf, lastEnd};
 use layout::put8;
@@ -18,6 +18,7 @@ use layout::put16;
 use layout::put32;
 use layout::put64;
 use value::Val;
+use value::encoding::put_val;
 
 // The most that a cursor tells.
 const MOST: u64 = 18446744073709551615;
@@ -41,17 +42,6 @@ fn has_room(out: &[u8], at: u64, on: bool, n: u64) -> bool
 }
 
 // ---- parts of pieces, each stored at an index
-
-// A value in its 14 bytes.
-pub fn put_value(part: &mut [u8], at: usize, v: Val)
-    requires { ⌜ at + 14 ≤ length (now part) ⌝ }
-    ensures { λ _. ⌜ now (part .exit) ≡ sets (now (part .entry)) at (valueBytes v) ⌝ }
-{
-    put8(part, at, v.known as u64);
-    put8(part, at + 1, v.signed as u64);
-    put32(part, at + 2, v.bits as u64);
-    put64(part, at + 6, v.number);
-}
 
 // What stands where there is no value: zero throughout.
 pub fn no_value() -> Val
@@ -289,7 +279,7 @@ fn put_wrote(part: &mut [u8], at: usize, s: StepPiece)
 {
     put8(part, at, s.wrote as u64);
     put16(part, at + 1, number_if(s.wrote, s.name));
-    put_value(part, at + 3, value_if(s.wrote, s.value));
+    put_val(part, at + 3, value_if(s.wrote, s.value));
 }
 
 // Its note up to the taken names.
@@ -300,7 +290,7 @@ fn put_note(part: &mut [u8], at: usize, n: NotePiece)
     put8(part, at, n.kind);
     put64(part, at + 1, n.address);
     put32(part, at + 9, n.count);
-    put_value(part, at + 13, n.value);
+    put_val(part, at + 13, n.value);
 }
 
 // The first of the names that stand in bytes behind their count.
@@ -382,7 +372,7 @@ fn put_named(part: &mut [u8], s: StopPiece)
     put64(part, 11, s.number);
     put32(part, 19, s.node);
     put16(part, 23, s.name);
-    put_value(part, 25, s.value);
+    put_val(part, 25, s.value);
 }
 
 // Stop.

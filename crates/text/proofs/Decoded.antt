@@ -9,19 +9,22 @@ use lib.Dec.{eqb, lit<}
 use lib.ListN.{length, length-append}
 use Rattle.layout.specs.Each.{Each}
 use Rattle.layout.specs.Number.{numberAt}
-use Rattle.layout.specs.Format.{number, pair, writes, boolOf}
+use Rattle.layout.specs.Format.{number, pair, boolOf}
 use Rattle.layout.proofs.FormatLaws.{Sound, Below, number-sound, pair-sound, counted-sound}
 use Rattle.value.specs.declared.Val.{Val}
 use Rattle.files.specs.Program.{flagged}
 use Rattle.definition.specs.Act.{Why, branchUnknown, switchUnknown, noCase, structTo, unknownAddress, unknownValue, noWidth, storeTo, byZero, Note, noNote, fieldsWritten, valueWritten, resultUnknown, notFollowed, Step}
 use Rattle.definition.specs.Statements.{Stop, Returned, Steps, Unknown, NoBlock, NoBlocks, NoReturn, Halted}
-use Rattle.definition.specs.Fields.{val, noVal, flagAndNumber}
+use Rattle.value.specs.Encoding.{val}
+use Rattle.definition.specs.Fields.{noVal, flagAndNumber}
 use Rattle.definition.specs.Record.{StopFields, stopFormat, unknownFields, stopFields, stopBody, NoteFields, noteFields, wroteFields, StepFields, stepFields, stepFormat}
 use Rattle.definition.proofs.Fields.{OptionFits, ValFits, flag-sound, val-sound}
 use Rattle.definition.proofs.Record.{stop-length}
-use Rattle.text.specs.Read.{valueIn, addressIn, writtenIf, wroteIn, namesIn, noteIn, stepIn, stepSize, StepThere, whyIn, stopIn, StopThere, VariableThere}
+use Rattle.value.specs.Encoding.{valAt}
+use Rattle.text.specs.Read.{addressIn, writtenIf, wroteIn, namesIn, noteIn, stepIn, stepSize, StepThere, whyIn, stopIn, StopThere, VariableThere}
 use Rattle.text.proofs.Fits.{WroteFits, NoteFits, StepFits, WhyFits, StopFits, VariableFits}
 use Rattle.text.proofs.Places.{stepFieldsIn, stopFieldsIn, step-at, stop-at, variable-at}
+use Rattle.stream.proofs.StepLaws.{length-names}
 
 -- ---- what the fields were made of
 
@@ -202,10 +205,6 @@ module _ (n : ℕ) (few : n ≤ 512) where
 abbrev takenIn : Note → List ℕ
 takenIn x = noteFields x .1 .1 .1 .1
 
-length-names : (xs : List ℕ) → length (writes (number 2) xs) ≡ 2 * length xs
-length-names [] = refl
-length-names (x ∷ xs) = omega (arith, length-names xs)
-
 length-step : (e : Step) → length (stepFormat .write (stepFields e)) ≡ 63 + 2 * length (takenIn (e .note))
 length-step e = omega (arith, length-names (takenIn (e .note)))
 
@@ -323,7 +322,7 @@ module _ (n : ℕ) (few : n ≤ 512) (x : Stop) (fits : StopFits n x) where
 -- ---- a variable
 
 module _ (n : ℕ) (few : n ≤ 512) (p : ℕ × Val) (fits : VariableFits n p) (s rest : List ℕ) (is : s ≡ pair (number 2) val .write p ++ rest) where
-  pub variable-read : (numberAt s 0 2, valueIn s 2) ≡ p
+  pub variable-read : (numberAt s 0 2, valAt s 2) ≡ p
   variable-read =
       sym (variable-at s)
       ∙ ap (λ (l : List ℕ). pair (number 2) val .read l .0) is

@@ -6,7 +6,7 @@ use native.Mathlib.Nat.{mod-lt, lt-of-lt-of-le}
 use native.Mathlib.Omega.{arith}
 use lib.Dec.{lit<, ltb, eqb}
 use lib.Pow.{pow-pos}
-use lib.IntN.{ℤ, pos, negsuc, natAbs}
+use lib.IntN.{ℤ, natAbs}
 use Rattle.layout.proofs.FormatLaws.{Below}
 use Rattle.value.specs.declared.Ty.{Ty}
 use Rattle.value.specs.declared.Val.{Val}
@@ -21,6 +21,7 @@ use Rattle.value.specs.Operators.{countOf, operandsOf, arithmetic, division, bi
 use Rattle.spelling.specs.Spelling.{is, pieces, anyUnsigned, baseOf, isBool, isWideUnsigned, isWideSigned, isShortInt, endsStar, signedWord, unsignedWord, alone, two, named, typeOf}
 use Rattle.value.proofs.Word.{width-le}
 use Rattle.definition.proofs.Fields.{ValFits}
+use Rattle.value.proofs.Residue.{residue-lt}
 
 pub record TyIs (t : Ty) : Type 0 where
   pub bits : Below 4 (t .bits)
@@ -30,12 +31,8 @@ pub record ValIs (v : Val) : Type 0 where
 
 -- ---- numbers of a width
 
-residue-low : (w : ℕ) (z : ℤ) → residue w z < 2 ^ w
-residue-low w (pos n) = mod-lt n (pow-pos w)
-residue-low w (negsuc n) = omega (arith, pow-pos w)
-
 pub residue-fits : (bits : ℕ) (z : ℤ) → Below 8 (residue (width bits) z)
-residue-fits bits z = lt-of-lt-of-le (residue-low (width bits) z) (width-le bits)
+residue-fits bits z = lt-of-lt-of-le (residue-lt (width bits) z) (width-le bits)
 
 module _ {t : Ty} (h : TyIs t) where
   pub known-fits : (n : ℕ) → ValIs (knownVal n t)

@@ -11,17 +11,18 @@ use Rattle.layout.specs.Number.{numberAt}
 use Rattle.layout.specs.Format.{number, pair}
 use Rattle.memory.specs.Overlay.{Overlay}
 use Rattle.value.specs.declared.Val.{Val}
-use Rattle.files.specs.FileTable.{body}
-use Rattle.files.specs.Program.{textsIn, Program, programOf}
+use Rattle.files.specs.Program.{Program, programOf}
 use Rattle.definition.specs.Act.{Step}
 use Rattle.definition.specs.Statements.{Stop}
-use Rattle.definition.specs.Fields.{val}
+use Rattle.value.specs.Encoding.{val}
 use Rattle.definition.specs.Numerals.{digits, decimal, hexadecimal}
-use Rattle.definition.specs.Record.{stopBody, countsBody, stepFields, stepFormat, stepsBody, variablesBody, memoryBody, questionsBody, Ran, recordBytes, bodyAt}
+use Rattle.memory.specs.Entries.{memoryBody}
+use Rattle.definition.specs.Record.{stopBody, countsBody, stepFields, stepFormat, stepsBody, variablesBody, questionsBody, Ran, recordBytes, bodyAt}
 use Rattle.definition.specs.Run.{ran, number as numberOf, workspaceNeeded}
 use Rattle.definition.specs.Listing.{nameText, valText, stepText, stopText, stepsText, variablesText, textOf, listingOf}
 use Rattle.definition.proofs.Record.{body-back, body-inside}
-use Rattle.text.specs.Read.{valueIn, stepIn, stepSize, StepThere, stopIn, StopThere, VariableThere}
+use Rattle.value.specs.Encoding.{valAt}
+use Rattle.text.specs.Read.{stepIn, stepSize, StepThere, stopIn, StopThere, VariableThere}
 use Rattle.text.specs.Lines.{headerText, stopLine, variableLine, stepLines, variableLines, linesOf}
 use Rattle.text.proofs.Fits.{StepFits, VariableFits, RanFits}
 use Rattle.text.proofs.Decoded.{step-read, step-length, step-there, stop-read, stop-there, variable-read, variable-there}
@@ -150,7 +151,7 @@ module _ (names : List (List ℕ)) where
   variables-none (suc f) [] e = refl
   variables-none (suc f) (b ∷ s) e = absurd (omega (arith, ap length e))
 
-  variables-cons : (f : ℕ) (s : List ℕ) → 0 < length s → variableLines names (suc f) s ≡ variableLine names (numberAt s 0 2, valueIn s 2) ++ variableLines names f (drop 16 s)
+  variables-cons : (f : ℕ) (s : List ℕ) → 0 < length s → variableLines names (suc f) s ≡ variableLine names (numberAt s 0 2, valAt s 2) ++ variableLines names f (drop 16 s)
   unfolding variableLines
   variables-cons f [] h = absurd (omega arith)
   variables-cons f (b ∷ s) h = refl
@@ -265,12 +266,6 @@ module _ (r : Ran) (short : length (recordBytes r) < 256 ^ 4) where
         (stop-then N (r .stop) (variablesText N (r .variables)))
 
 -- ---- the listing of a routine, a world and a call
-
--- the header's numbers are the routine's
-pub header-is : (routine : List ℕ) → let P = programOf routine in
-    headerText (textsIn (body routine 0)) (numberAt (body routine 2) 0 2) (numberAt (body routine 2) 2 8) ≡ headerText (P .names) (P .name) (P .address)
-unfolding programOf
-header-is routine = refl
 
 module _ (routine world call : List ℕ) where
   abbrev picked : ℕ → List ℕ

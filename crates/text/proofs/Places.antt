@@ -9,9 +9,10 @@ use lib.Seq.{drop-drop}
 use Rattle.layout.specs.Number.{num, numberAt}
 use Rattle.layout.specs.Format.{Format, number, flag, pair, counted, reads, boolOf}
 use Rattle.value.specs.declared.Val.{Val}
-use Rattle.definition.specs.Fields.{val, toVal}
+use Rattle.value.specs.Encoding.{val, toVal}
 use Rattle.definition.specs.Record.{StopFields, stopFormat, StepFields, stepFormat}
-use Rattle.text.specs.Read.{valueIn, namesIn}
+use Rattle.value.specs.Encoding.{valAt}
+use Rattle.text.specs.Read.{namesIn}
 
 module _ (s : List ℕ) where
   -- F reads a from place i up to place j
@@ -31,8 +32,8 @@ module _ (s : List ℕ) where
       ap (λ (r : A × List ℕ). let t = G .read (r .1) in ((r .0, t .0), t .1)) p
       ∙ ap (λ (t : B × List ℕ). ((a, t .0), t .1)) q
 
-  pub value-at : (i : ℕ) → At val i (valueIn s i) (i + 14)
-  unfolding valueIn
+  pub value-at : (i : ℕ) → At val i (valAt s i) (i + 14)
+  unfolding valAt
   value-at i =
       let p = pair-at flag (pair flag (pair (number 4) (number 8))) i (i + 1) (i + 1 + 1 + 4 + 8) (flag-at i)
       (pair-at flag (pair (number 4) (number 8)) (i + 1) (i + 1 + 1) (i + 1 + 1 + 4 + 8) (flag-at (i + 1))
@@ -60,15 +61,15 @@ module _ (s : List ℕ) where
       (
         numberAt s 13 4,
         (
-          (boolOf (numberAt s 17 1), (numberAt s 18 2, valueIn s 20)),
-          (numberAt s 34 1, (numberAt s 35 8, (numberAt s 43 4, (valueIn s 47, namesIn s 63 (numberAt s 61 2))))),
+          (boolOf (numberAt s 17 1), (numberAt s 18 2, valAt s 20)),
+          (numberAt s 34 1, (numberAt s 35 8, (numberAt s 43 4, (valAt s 47, namesIn s 63 (numberAt s 61 2))))),
         ),
       ),
     ),
   )
 
   abbrev pub stopFieldsIn : StopFields
-  stopFieldsIn = (numberAt s 0 1, (numberAt s 1 1, ((numberAt s 2 1, numberAt s 3 8), (numberAt s 11 8, (numberAt s 19 4, (numberAt s 23 2, valueIn s 25))))))
+  stopFieldsIn = (numberAt s 0 1, (numberAt s 1 1, ((numberAt s 2 1, numberAt s 3 8), (numberAt s 11 8, (numberAt s 19 4, (numberAt s 23 2, valAt s 25))))))
 
   taken-at : counted 2 (number 2) .read (drop 61 s) .0 ≡ namesIn s 63 (numberAt s 61 2)
   unfolding numberAt
@@ -107,5 +108,5 @@ module _ (s : List ℕ) where
       (last-at (number 4) d 19 23 (number-at 19 4)
       (last-at (number 2) val 23 25 (number-at 23 2) (ap (λ (r : Val × List ℕ). r .0) (value-at 25)))))))
 
-  pub variable-at : pair (number 2) val .read s .0 ≡ (numberAt s 0 2, valueIn s 2)
+  pub variable-at : pair (number 2) val .read s .0 ≡ (numberAt s 0 2, valAt s 2)
   variable-at = last-at (number 2) val 0 2 (number-at 0 2) (ap (λ (r : Val × List ℕ). r .0) (value-at 2))

@@ -5,27 +5,14 @@ use mathlib.Core.List.{List}
 use mathlib.Core.Option.{none, some}
 use Prim.Native.Nat.{ℕ, zero, suc, _+_, _-_, _*_, _<_}
 use native.Mathlib.Omega.{arith}
-use borrow.Author.Tests.{lt-ltb}
-use lib.Dec.{ltb}
 use lib.ListN.{length, take, drop, length-drop}
 use lib.Seq.{take-all}
 use Rattle.layout.specs.Number.{numberAt}
 use Rattle.layout.specs.Format.{boolOf}
 use Rattle.value.specs.declared.Val.{Val}
 use Rattle.files.specs.Program.{flagged}
-use Rattle.text.specs.Read.{valueIn, addressIn, writtenIf, wroteIn, StepThere, VariableThere}
-
-some-flag : (n : ℕ) → ltb 0 n ≡ boolOf n
-some-flag zero = refl
-some-flag (suc n) = lt-ltb 0 (suc n) (omega arith)
-
-abbrev pub valueOf : (known signed : Bool) → (bits number : ℕ) → Val
-valueOf known signed bits number = record { known = known; signed = signed; bits = bits; number = number }
-
-pub value-read : (s : List ℕ) (i : ℕ) {a b n m : ℕ} → a ≡ numberAt s i 1 → b ≡ numberAt s (i + 1) 1 → n ≡ numberAt s (i + 2) 4 → m ≡ numberAt s (i + 6) 8
-    → valueOf (ltb 0 a) (ltb 0 b) n m ≡ valueIn s i
-unfolding valueIn
-value-read s i {a} {b} p q r e = λ j. valueOf ((some-flag a ∙ ap boolOf p) j) ((some-flag b ∙ ap boolOf q) j) (r j) (e j)
+use Rattle.value.specs.Encoding.{valAt}
+use Rattle.text.specs.Read.{addressIn, writtenIf, wroteIn, StepThere, VariableThere}
 
 -- ---- what is there if its flag is set
 
@@ -49,9 +36,9 @@ module _ (s : List ℕ) (i : ℕ) {f : ℕ} (e : f ≡ numberAt s i 1) where
 module _ (s : List ℕ) {f : ℕ} (e : f ≡ numberAt s 17 1) where
   pub wrote-none : f ≡ 0 → none ≡ wroteIn s
   unfolding wroteIn
-  wrote-none z = ap (λ (k : ℕ). writtenIf (boolOf k) (numberAt s 18 2, valueIn s 20)) (sym z ∙ e)
+  wrote-none z = ap (λ (k : ℕ). writtenIf (boolOf k) (numberAt s 18 2, valAt s 20)) (sym z ∙ e)
 
-  pub wrote-some : {k : ℕ} {v : Val} → (f ≡ 0 → ⊥) → k ≡ numberAt s 18 2 → v ≡ valueIn s 20 → some (k, v) ≡ wroteIn s
+  pub wrote-some : {k : ℕ} {v : Val} → (f ≡ 0 → ⊥) → k ≡ numberAt s 18 2 → v ≡ valAt s 20 → some (k, v) ≡ wroteIn s
   unfolding wroteIn
   wrote-some {k} {v} h p q =
       ap (λ (b : Bool). writtenIf b (k, v)) (sym (flag-true f h))

@@ -8,7 +8,8 @@ use Rattle.layout.specs.Number.{numberAt}
 use Rattle.definition.specs.Act.{noNote, fieldsWritten, valueWritten, resultUnknown, notFollowed}
 use Rattle.definition.specs.Listing.{addressText, wroteText, noteText, stepText}
 use Rattle.definition.specs.Numerals.{decimal}
-use Rattle.text.specs.Read.{valueIn, addressIn, wroteIn, namesIn, noteIn, stepIn}
+use Rattle.value.specs.Encoding.{valAt}
+use Rattle.text.specs.Read.{addressIn, wroteIn, namesIn, noteIn, stepIn}
 use Rattle.text.specs.Put.{Put}
 use Rattle.text.specs.Lines.{commaed}
 use Rattle.text.proofs.PutLaws.{put-third}
@@ -47,7 +48,7 @@ module _ (s : List ℕ) {k : ℕ} (e : k ≡ numberAt s 34 1) where
   unfolding noteIn
   note-fields z = rw (sym e ∙ z)
 
-  pub note-value : k ≡ 2 → valueWritten (numberAt s 35 8) (valueIn s 47) ≡ noteIn s
+  pub note-value : k ≡ 2 → valueWritten (numberAt s 35 8) (valAt s 47) ≡ noteIn s
   unfolding noteIn
   note-value z = rw (sym e ∙ z)
 

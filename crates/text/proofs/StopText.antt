@@ -8,7 +8,8 @@ use Rattle.layout.specs.Number.{numberAt}
 use Rattle.value.specs.declared.Val.{Val}
 use Rattle.definition.specs.Act.{branchUnknown, switchUnknown, noCase, structTo, unknownAddress, unknownValue, noWidth, storeTo, byZero}
 use Rattle.definition.specs.Statements.{Returned, Steps, Unknown, NoBlock, NoBlocks, NoReturn, Halted}
-use Rattle.text.specs.Read.{valueIn, addressIn, whyIn, stopIn, StopThere}
+use Rattle.value.specs.Encoding.{valAt}
+use Rattle.text.specs.Read.{addressIn, whyIn, stopIn, StopThere}
 
 -- ---- the reason
 
@@ -58,7 +59,7 @@ module _ (s : List ℕ) {k : ℕ} (e : k ≡ numberAt s 1 1) where
 -- ---- the stop
 
 module _ (s : List ℕ) {k : ℕ} (e : k ≡ numberAt s 0 1) where
-  pub stop-value : {v : Val} → k ≡ 0 → v ≡ valueIn s 25 → Returned (some v) ≡ stopIn s
+  pub stop-value : {v : Val} → k ≡ 0 → v ≡ valAt s 25 → Returned (some v) ≡ stopIn s
   unfolding stopIn
   stop-value z g = ap (λ (v : Val). Returned (some v)) g ∙ rw (sym e ∙ z)
 

@@ -9,7 +9,8 @@ use Rattle.definition.specs.Statements.{Stop}
 use Rattle.layout.specs.Number.{numberAt}
 use Rattle.definition.specs.Record.{bodyAt}
 use Rattle.definition.specs.Listing.{nameText, commas, valText, stepText, stopText}
-use Rattle.text.specs.Read.{valueIn, stepIn, stepSize, stopIn}
+use Rattle.value.specs.Encoding.{valAt}
+use Rattle.text.specs.Read.{stepIn, stepSize, stopIn}
 
 module _ (names : List (List ℕ)) where
   -- names with commas between them
@@ -36,7 +37,7 @@ module _ (names : List (List ℕ)) where
   unfoldable pub variableLines : ℕ → List ℕ → List ℕ
   variableLines zero s = []
   variableLines (suc f) [] = []
-  variableLines (suc f) (b ∷ s) = variableLine (numberAt (b ∷ s) 0 2, valueIn (b ∷ s) 2) ++ variableLines f (drop 16 (b ∷ s))
+  variableLines (suc f) (b ∷ s) = variableLine (numberAt (b ∷ s) 0 2, valAt (b ∷ s) 2) ++ variableLines f (drop 16 (b ∷ s))
 
   -- all lines, from the bytes of a record: the header, the steps that its third pair locates, the stop, the variables
   unfoldable pub linesOf : (name address : ℕ) → List ℕ → List ℕ

@@ -10,18 +10,10 @@ use lib.Dec.{eqb}
 use Rattle.layout.specs.Number.{numberAt}
 use Rattle.layout.specs.Format.{boolOf}
 use Rattle.value.specs.declared.Val.{Val}
+use Rattle.value.specs.Encoding.{valAt}
 use Rattle.files.specs.Program.{flagged}
 use Rattle.definition.specs.Act.{Why, branchUnknown, switchUnknown, noCase, structTo, unknownAddress, unknownValue, noWidth, storeTo, byZero, Note, noNote, fieldsWritten, valueWritten, resultUnknown, notFollowed, Step}
 use Rattle.definition.specs.Statements.{Stop, Returned, Steps, Unknown, NoBlock, NoBlocks, NoReturn, Halted}
-
--- "A value is 14 bytes: known u8, signed u8, width in bits u32, number u64"
-unfoldable pub valueIn : List ℕ → ℕ → Val
-valueIn s i = record {
-  known = boolOf (numberAt s i 1);
-  signed = boolOf (numberAt s (i + 1) 1);
-  bits = numberAt s (i + 2) 4;
-  number = numberAt s (i + 6) 8;
-}
 
 -- "flag u8, u64"
 unfoldable pub addressIn : List ℕ → ℕ → Option ℕ
@@ -34,7 +26,7 @@ writtenIf true w = some w
 writtenIf false w = none
 
 unfoldable pub wroteIn : List ℕ → Option (ℕ × Val)
-wroteIn s = writtenIf (boolOf (numberAt s 17 1)) (numberAt s 18 2, valueIn s 20)
+wroteIn s = writtenIf (boolOf (numberAt s 17 1)) (numberAt s 18 2, valAt s 20)
 
 -- so many names from a place on
 unfoldable pub namesIn : List ℕ → ℕ → ℕ → List ℕ
@@ -46,7 +38,7 @@ noteIn s =
     let kind = numberAt s 34 1 in
     cond (eqb kind 0) noNote
     (cond (eqb kind 1) (fieldsWritten (numberAt s 35 8) (numberAt s 43 4))
-    (cond (eqb kind 2) (valueWritten (numberAt s 35 8) (valueIn s 47))
+    (cond (eqb kind 2) (valueWritten (numberAt s 35 8) (valAt s 47))
     (cond (eqb kind 3) resultUnknown (notFollowed (namesIn s 63 (numberAt s 61 2))))))
 
 unfoldable pub stepIn : List ℕ → Step
@@ -87,7 +79,7 @@ unfoldable pub stopIn : List ℕ → Stop
 stopIn s =
     let kind = numberAt s 0 1 in
     let number = numberAt s 11 8 in
-    cond (eqb kind 0) (Returned (some (valueIn s 25)))
+    cond (eqb kind 0) (Returned (some (valAt s 25)))
     (cond (eqb kind 1) (Returned none)
     (cond (eqb kind 2) (Steps number)
     (cond (eqb kind 3) (Unknown (addressIn s 2) (whyIn s))

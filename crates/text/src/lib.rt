@@ -10,7 +10,8 @@ ghost use Rattle.index.specs.Texts.{textCount, TextsIndexed};
 ghost use Rattle.definition.specs.Numerals.{decimal};
 ghost use Rattle.definition.specs.Listing.{stepText};
 ghost use Rattle.text.specs.Put.{Put};
-ghost use Rattle.text.specs.Read.{valueIn, stepIn, stepSize, StepThere, stopIn, StopThere, VariableThere};
+ghost use Rattle.value.specs.Encoding.{valAt};
+ghost use Rattle.text.specs.Read.{stepIn, stepSize, StepThere, stopIn, StopThere, VariableThere};
 ghost use Rattle.text.specs.Lines.{headerText, stopLine, variableLine};
 
 pub mod numerals;
@@ -23,11 +24,11 @@ use parts::put_name;
 use parts::put_named;
 use parts::put_text;
 use parts::put_value;
-use parts::value_at;
 use steps::put_note;
 use steps::put_place;
 use steps::put_wrote;
 use stops::put_stop;
+use value::encoding::get_val;
 
 // The bytes of a buffer in which every line fits.
 pub const LINE: usize = 8192;
@@ -104,7 +105,7 @@ pub fn stop_line(names: &[u8], part: &[u8], stop: &[u8], out: &mut [u8]) -> usiz
 pub fn variable_line(names: &[u8], part: &[u8], variables: &[u8], at: usize, out: &mut [u8]) -> Line
     requires { ⌜ (TextsIndexed (now names) (now part)) × ((at ≤ length (now variables)) × (VariableThere (textCount (now names)) (drop at (now variables)))) ⌝ }
     requires { ⌜ 8192 ≤ length (now out) ⌝ }
-    ensures { λ r. ⌜ (Put (now (out .entry)) 0 (variableLine (textsIn (now (names .entry))) (numberAt (drop at (now (variables .entry))) 0 2, valueIn (drop at (now (variables .entry))) 2)) (now (out .exit)) (r .length)) × (r .length ≤ 8192) ⌝ }
+    ensures { λ r. ⌜ (Put (now (out .entry)) 0 (variableLine (textsIn (now (names .entry))) (numberAt (drop at (now (variables .entry))) 0 2, valAt (drop at (now (variables .entry))) 2)) (now (out .exit)) (r .length)) × (r .length ≤ 8192) ⌝ }
     ensures { λ r. ⌜ r .next ≡ at + 16 ⌝ }
 {
     let variable = &variables[at..];
@@ -119,10 +120,10 @@ pub fn variable_line(names: &[u8], part: &[u8], variables: &[u8], at: usize, out
 fn put_variable(names: &[u8], part: &[u8], variable: &[u8], out: &mut [u8]) -> usize
     requires { ⌜ (TextsIndexed (now names) (now part)) × (VariableThere (textCount (now names)) (now variable)) ⌝ }
     requires { ⌜ 8192 ≤ length (now out) ⌝ }
-    ensures { λ r. ⌜ (Put (now (out .entry)) 0 (variableLine (textsIn (now (names .entry))) (numberAt (now (variable .entry)) 0 2, valueIn (now (variable .entry)) 2)) (now (out .exit)) r) × (r ≤ 8192) ⌝ }
+    ensures { λ r. ⌜ (Put (now (out .entry)) 0 (variableLine (textsIn (now (names .entry))) (numberAt (now (variable .entry)) 0 2, valAt (now (variable .entry)) 2)) (now (out .exit)) r) × (r ≤ 8192) ⌝ }
 {
     let name = layout::get16(variable, 0) as usize;
     let named = put_named(out, 0, b";   ", names, part, name, b" = ");
-    let end = put_value(out, named, value_at(variable, 2));
+    let end = put_value(out, named, get_val(variable, 2));
     put_text(out, end, b"\n")
 }

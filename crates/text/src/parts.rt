@@ -1,5 +1,4 @@
 // Texts, names and values.
-ghost use mathlib.Core.Path.{_≡_};
 ghost use mathlib.Core.List.{_++_};
 ghost use Prim.Native.Nat.{_+_, _≤_, _<_};
 ghost use lib.ListN.{length};
@@ -7,24 +6,10 @@ ghost use Rattle.files.specs.Program.{textsIn};
 ghost use Rattle.index.specs.Texts.{textCount, TextsIndexed};
 ghost use Rattle.definition.specs.Listing.{nameText, hexBeside, valText};
 ghost use Rattle.text.specs.Put.{Put};
-ghost use Rattle.text.specs.Read.{valueIn};
 use crate::numerals::put_integer;
 use crate::numerals::put_numbered;
 use value::Ty;
 use value::Val;
-
-// The value in the 14 bytes at a place.
-pub fn value_at(s: &[u8], at: usize) -> Val
-    requires { ⌜ at + 14 ≤ length (now s) ⌝ }
-    ensures { λ r. ⌜ r ≡ valueIn (now (s .entry)) at ⌝ }
-{
-    Val {
-        known: 0 < layout::get8(s, at),
-        signed: 0 < layout::get8(s, at + 1),
-        bits: layout::get32(s, at + 2) as u32,
-        number: layout::get64(s, at + 6),
-    }
-}
 
 pub fn put_text(out: &mut [u8], at: usize, from: &[u8]) -> usize
     requires { ⌜ at + length (now from) ≤ length (now out) ⌝ }

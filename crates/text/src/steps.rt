@@ -11,7 +11,8 @@ ghost use Rattle.definition.specs.Act.{fieldsWritten, valueWritten, notFollowed
 ghost use Rattle.definition.specs.Numerals.{decimal};
 ghost use Rattle.definition.specs.Listing.{addressText, wroteText, noteText};
 ghost use Rattle.text.specs.Put.{Put};
-ghost use Rattle.text.specs.Read.{valueIn, addressIn, wroteIn, noteIn, namesIn, stepSize, StepThere};
+ghost use Rattle.value.specs.Encoding.{valAt};
+ghost use Rattle.text.specs.Read.{addressIn, wroteIn, noteIn, namesIn, stepSize, StepThere};
 ghost use Rattle.text.specs.Lines.{commaed};
 use crate::numerals::put_led;
 use crate::numerals::put_padded;
@@ -19,7 +20,7 @@ use crate::parts::put_name;
 use crate::parts::put_named;
 use crate::parts::put_text;
 use crate::parts::put_value;
-use crate::parts::value_at;
+use value::encoding::get_val;
 
 // How many bytes a step has.
 pub fn step_size(step: &[u8]) -> usize
@@ -61,7 +62,7 @@ pub fn put_wrote(out: &mut [u8], at: usize, names: &[u8], part: &[u8], step: &[u
     }
     let name = layout::get16(step, 18) as usize;
     let end = put_named(out, at, b"  ; ", names, part, name, b" = ");
-    put_value(out, end, value_at(step, 20))
+    put_value(out, end, get_val(step, 20))
 }
 
 // The names that it took, at least one.
@@ -119,10 +120,10 @@ fn put_fields(out: &mut [u8], at: usize, step: &[u8]) -> usize
 // The value that it stored, and where.
 fn put_stored(out: &mut [u8], at: usize, step: &[u8]) -> usize
     requires { ⌜ (at + 300 ≤ length (now out)) × (63 ≤ length (now step)) ⌝ }
-    ensures { λ r. ⌜ (Put (now (out .entry)) at (noteText [] (valueWritten (numberAt (now (step .entry)) 35 8) (valueIn (now (step .entry)) 47))) (now (out .exit)) r) × (r ≤ at + 300) ⌝ }
+    ensures { λ r. ⌜ (Put (now (out .entry)) at (noteText [] (valueWritten (numberAt (now (step .entry)) 35 8) (valAt (now (step .entry)) 47))) (now (out .exit)) r) × (r ≤ at + 300) ⌝ }
 {
     let start = put_text(out, at, b"  ; wrote ");
-    let end = put_value(out, start, value_at(step, 47));
+    let end = put_value(out, start, get_val(step, 47));
     put_led(out, end, b" at 0x", layout::get64(step, 35), 16)
 }
 

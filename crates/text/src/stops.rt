@@ -17,9 +17,9 @@ use crate::numerals::put_numbered;
 use crate::parts::put_named;
 use crate::parts::put_text;
 use crate::parts::put_value;
-use crate::parts::value_at;
 use value::Ty;
 use value::Val;
+use value::encoding::get_val;
 
 // That it stopped, and where.
 fn put_stopped(out: &mut [u8], at: usize, stop: &[u8]) -> usize
@@ -144,7 +144,7 @@ pub fn put_stop(out: &mut [u8], at: usize, names: &[u8], part: &[u8], stop: &[u8
 {
     let number = layout::get64(stop, 11);
     match layout::get8(stop, 0) {
-        0 => put_returned(out, at, value_at(stop, 25)),
+        0 => put_returned(out, at, get_val(stop, 25)),
         1 => put_text(out, at, b"returned"),
         2 => put_numbered(out, at, b"stopped after ", number, 10, b" steps"),
         3 => put_unknown(out, at, names, part, stop),

@@ -8,8 +8,7 @@ use native.Mathlib.Numerals.{sub-one}
 use native.Mathlib.Omega.{arith}
 use lib.IntN.{ℤ, pos, negsuc}
 use lib.Signed.{mag}
-use Rattle.value.specs.Width.{width, residue, reading}
-use Rattle.value.specs.Value.{type}
+use Rattle.value.specs.Width.{residue, reading}
 use Rattle.value.proofs.Reading.{reading-low, reading-high}
 
 -- an integer that w bits can hold, unsigned or in two's complement

@@ -4,17 +4,15 @@ use mathlib.Core.Bool.{Bool, true}
 use mathlib.Core.List.{List}
 use Prim.Native.Nat.{ℕ, suc}
 use Rattle.definition.specs.Act.{Act, spend}
-use Rattle.definition.specs.Host.{Host, hosted}
+use Rattle.definition.specs.Host.{hosted}
 use Rattle.definition.specs.State.{some?}
 use Rattle.hosting.specs.declared.Counts.{Counts}
 use Rattle.hosting.specs.Scene.{Given, Scene}
-use Rattle.hosting.specs.Held.{Held, held, codeHost}
+use Rattle.hosting.specs.Held.{held, codeHost}
 use Rattle.hosting.specs.Ending.{Ending}
 use Rattle.hosting.specs.Runs.{Came, Runs}
+use Rattle.hosting.proofs.Running.{hostIn}
 use Rattle.walk.specs.Units.{paidCounts}
-
-abbrev hostIn : Given → Scene → Host Held
-hostIn g x = codeHost (x .world) (g .how .second)
 
 pub spend-runs : {A : Type 0} {g : Given} {b : Bool} (k : Scene → Bool → Act A) (n : ℕ) {w o : List ℕ} {a : Counts} {e : Ending A} {w′ o′ : List ℕ} {a′ : Counts}
     → a .tally .left ≡ suc n → Runs g (λ x. k x true) w o (paidCounts b a) e w′ o′ a′ → Runs g (λ x. spend b (k x)) w o a e w′ o′ a′

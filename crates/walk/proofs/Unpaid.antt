@@ -3,14 +3,11 @@ use mathlib.Core.Path.{_≡_, refl, ap, _∙_, subst}
 use mathlib.Core.Bool.{Bool}
 use mathlib.Core.List.{List}
 use mathlib.Core.Option.{none, some}
-use Prim.Native.Nat.{ℕ, zero, suc}
-use Rattle.value.specs.declared.Val.{Val}
+use Prim.Native.Nat.{ℕ}
 use Rattle.definition.specs.Question.{World, cut}
 use Rattle.definition.specs.Act.{Act, done, fail, ask, act, End, gave, stopped, Why, Op, peekOp, pokeOp, getOp, setOp, pendingOp, leaveOp, spendOp, emitOp}
 use Rattle.definition.specs.Host.{hosted}
-use Rattle.definition.specs.Walk.{followAt}
 use Rattle.definition.proofs.Every.{All, Every}
-use Rattle.definition.proofs.Evaluation.{Quiet, q-done, q-ask}
 use Rattle.definition.proofs.Units.{Unpaid}
 use Rattle.workspace.specs.Parts.{tables}
 use Rattle.hosting.specs.declared.Tally.{Tally}
@@ -79,9 +76,3 @@ module _ {A : Type 0} {F : Why → Type 0} {Q : A → Type 0} {g : Given} {m : S
     tables = r .tables;
   }
   units-kept (short none) r = record { ready = tt; came = r .came; tables = tt }
-
--- how a call is followed takes no unit
-pub quiet-follow : (left name address : ℕ) (vs : List Val) → Quiet (followAt left name address vs)
-unfolding followAt
-quiet-follow zero name address vs = q-done
-quiet-follow (suc left) name address vs = q-ask (λ _. q-done)

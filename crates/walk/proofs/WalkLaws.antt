@@ -44,7 +44,8 @@ use Rattle.walk.specs.Units.{Balanced, paidCounts, withUnits}
 use Rattle.statements.specs.Post.{blockOf}
 use Rattle.walk.specs.Post.{Stays, unitAct, UnitOf, walkOn, TurnsTo, Turns, WalksFrom}
 use Rattle.walk.proofs.Spending.{spend-runs}
-use Rattle.walk.proofs.Unpaid.{units-kept, quiet-follow}
+use Rattle.definition.proofs.Walked.{quiet-follow}
+use Rattle.walk.proofs.Unpaid.{units-kept}
 
 -- ---- what a unit buys in the definition
 

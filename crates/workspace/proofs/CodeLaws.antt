@@ -1,7 +1,6 @@
 -- The codes of types: each type that a spelling names has one, from which it is read again. Assumes nothing.
 use mathlib.Core.Path.{_≡_, refl, sym, ap, _∙_, subst}
-use mathlib.Core.Bool.{Bool, true, false, cond, not}
-use mathlib.Core.List.{List, [], _∷_}
+use mathlib.Core.Bool.{Bool, true, false, not}
 use mathlib.Core.Option.{Option, none, some}
 use Prim.Native.Nat.{ℕ, zero, suc, _+_, _*_, _/_, _%_, _≤_, _<_}
 use native.Mathlib.Omega.{arith}
@@ -11,11 +10,9 @@ use Rattle.layout.specs.Format.{flagOf, boolOf}
 use Rattle.value.specs.declared.Ty.{Ty}
 use Rattle.spelling.specs.declared.Pointee.{Pointee}
 use Rattle.spelling.specs.declared.Pointee.the-variants.{Of, NoPointer}
-use Rattle.value.specs.Value.{type}
-use Rattle.spelling.specs.Spelling.{is, isBool, isWideSigned, isWideUnsigned, isShortInt, signedWord, unsignedWord, alone, two, named, anyUnsigned, pieces, baseOf, endsStar, beforeStar, typeOf, pointeeOf}
 use Rattle.workspace.specs.Types.{codeOf, typeOfCode, codeIf, typeIfCode, Coded, CodedIf}
 use Rattle.workspace.specs.Post.{pointedAt}
-use Rattle.workspace.proofs.ValueLaws.{flag-read, flag-written}
+use Rattle.value.proofs.EncodingLaws.{flag-read, flag-written}
 
 -- ---- a code and its type
 
@@ -87,59 +84,3 @@ pointed-code p t c e k = k ∙ sym (ap (λ (q : Pointee). codeIf (pointedAt q)) 
 pub unpointed-code : (p : Pointee) → p ≡ NoPointer → 0 ≡ codeIf (pointedAt p)
 unfolding codeIf
 unpointed-code p e = sym (ap (λ (q : Pointee). codeIf (pointedAt q)) e)
-
--- ---- each type that a spelling names has a code
-
-coded : (n : ℕ) (s : Bool) → (8 * n) % 8 ≡ 0 → 0 < 8 * n → 8 * n ≤ 64 → Coded (type (8 * n) s)
-coded n s w p m = record { whole = w; some = p; most = m }
-
-coded-8 : (s : Bool) → Coded (type 8 s)
-coded-8 s = coded 1 s refl (omega arith) (omega arith)
-
-coded-16 : (s : Bool) → Coded (type 16 s)
-coded-16 s = coded 2 s refl (omega arith) (omega arith)
-
-coded-32 : (s : Bool) → Coded (type 32 s)
-coded-32 s = coded 4 s refl (omega arith) (omega arith)
-
-coded-64 : (s : Bool) → Coded (type 64 s)
-coded-64 s = coded 8 s refl (omega arith) (omega arith)
-
-either : (b : Bool) {t u : Ty} → Coded t → Coded u → Coded (cond b t u)
-either true h k = h
-either false h k = k
-
-word-coded : (u : Bool) (w : List ℕ) → Coded (alone u w)
-unfolding alone unsignedWord signedWord
-word-coded u w =
-    either (isBool w) (coded-8 false)
-    (either (is w "char") (coded-8 (not u))
-    (either (is w "short") (coded-16 (not u))
-    (either (is w "int") (coded-32 (not u))
-    (either (is w "uint8_t") (coded-8 false)
-    (either (is w "uint16_t") (coded-16 false)
-    (either (is w "uint32_t") (coded-32 false)
-    (either (isWideUnsigned w) (coded-64 false)
-    (either (is w "int8_t") (coded-8 true)
-    (either (is w "int16_t") (coded-16 true)
-    (either (is w "int32_t") (coded-32 true)
-    (either (isWideSigned w) (coded-64 true)
-    (coded-64 (not u)))))))))))))
-
-named-coded : (u : Bool) (ws : List (List ℕ)) → Coded (named u ws)
-unfolding two
-named-coded u [] = coded-32 (not u)
-named-coded u (w ∷ []) = word-coded u w
-named-coded u (v ∷ w ∷ []) = either (isShortInt v w) (coded-16 (not u)) (coded-64 (not u))
-named-coded u (v ∷ w ∷ x ∷ ws) = coded-64 (not u)
-
-pub typeOf-coded : (s : List ℕ) → Coded (typeOf s)
-unfolding typeOf
-typeOf-coded s = either (endsStar s) (coded-64 false) (named-coded (anyUnsigned (pieces s)) (baseOf (pieces s)))
-
-pub pointeeOf-coded : (s : List ℕ) → CodedIf (pointedAt (pointeeOf s))
-pointeeOf-coded s = go (endsStar s)
-  where
-    go : (b : Bool) → CodedIf (pointedAt (cond b (Of (typeOf (beforeStar s))) NoPointer))
-    go true = typeOf-coded (beforeStar s)
-    go false = tt

@@ -15,8 +15,9 @@ use Rattle.layout.proofs.FormatLaws.{writes-append}
 use Rattle.value.specs.declared.Val.{Val}
 use Rattle.memory.specs.Overlay.{Overlay, find}
 use Rattle.workspace.specs.Parts.{framePart}
-use Rattle.workspace.specs.Values.{valBytes, value}
-use Rattle.workspace.specs.Variables.{nameLimit, slotAt, entryIf, those, variablesIn, variableAt, variableSize, variablesBody}
+use Rattle.value.specs.Encoding.{valBytes, val}
+use Rattle.definition.specs.Record.{variablesBody}
+use Rattle.workspace.specs.Variables.{nameLimit, slotAt, entryIf, those, variablesIn, variableAt, variableSize}
 use Rattle.workspace.specs.declared.variables.Slot.{Slot}
 use Rattle.workspace.specs.declared.variables.Slot.the-variants.{Set, Unset}
 use Rattle.workspace.specs.Post.{slotAs, PutsVariables}
@@ -32,7 +33,7 @@ length-body (p ∷ m) = omega (arith, length-body m)
 
 body-append : (l m : Overlay Val) → variablesBody (l ++ m) ≡ variablesBody l ++ variablesBody m
 unfolding variablesBody
-body-append l m = writes-append (pair (number 2) value) l m
+body-append l m = writes-append (pair (number 2) val) l m
 
 body-one : (x : ℕ) (v : Val) → variablesBody ((x, v) ∷ []) ≡ le 2 x ++ valBytes v
 unfolding variablesBody valBytes

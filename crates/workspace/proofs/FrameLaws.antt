@@ -11,16 +11,17 @@ use lib.Seq.{sets, take-all}
 use Rattle.layout.specs.Number.{num, numberAt}
 use Rattle.layout.specs.Format.{boolOf}
 use Rattle.value.specs.declared.Val.{Val}
-use Rattle.memory.specs.Overlay.{find, store, Ascending}
+use Rattle.memory.specs.Overlay.{find, store}
 use Rattle.memory.proofs.OverlayLaws.{below, equal, above, compared}
 use Rattle.workspace.specs.Parts.{part, framePlace, frameSize, framePart}
-use Rattle.workspace.specs.Values.{valBytes, valAt, Whole}
+use Rattle.value.specs.Encoding.{valBytes, valAt, Whole}
 use Rattle.workspace.specs.Variables.{slotSize, nameLimit, slotAt, variablesIn}
 use Rattle.workspace.specs.declared.variables.Slot.the-variants.{Set, Unset}
 use Rattle.workspace.specs.Post.{slotAs}
 use Rattle.workspace.proofs.PartLaws.{part-part, part-above, part-below, part-stored, number-same, number-part}
-use Rattle.workspace.proofs.ValueLaws.{length-valBytes, val-same, val-stored, flag-set}
-use Rattle.workspace.proofs.VariableLaws.{those-find, those-store, those-ascending}
+use Rattle.value.proofs.EncodingLaws.{length-valBytes}
+use Rattle.workspace.proofs.ValueLaws.{val-same, val-stored, flag-set}
+use Rattle.workspace.proofs.VariableLaws.{those-find, those-store}
 
 abbrev slotIf : Bool → Val → Option Val
 slotIf b v = elim b [ true ↦ some v | false ↦ none ]
@@ -67,10 +68,6 @@ module _ (f : List ℕ) (x : ℕ) (v : Val) (room : frameSize ≤ length f) (few
 pub variables-find : (f : List ℕ) (x : ℕ) → x < nameLimit → find x (variablesIn f) ≡ slotAt f x
 unfolding variablesIn
 variables-find f x h = those-find (slotAt f) x 0 nameLimit (omega arith) (omega arith)
-
-pub variables-ascending : (f : List ℕ) → Ascending (variablesIn f)
-unfolding variablesIn
-variables-ascending f = those-ascending (slotAt f) 0 nameLimit
 
 -- ---- a slot read in the workspace
 

@@ -11,7 +11,7 @@ use Rattle.memory.specs.Entries.{entries}
 use Rattle.memory.specs.declared.Stored.{Stored}
 use Rattle.memory.specs.declared.Stored.the-variants.{Count, Full}
 use Rattle.memory.specs.Post.{StoresAll}
-use Rattle.workspace.specs.Parts.{part, workspaceSize, memorySize, framePlace, frameSize, notePlace, noteSize, registersPlace, registersSize, tablesPlace, memoryPart, framePart, notePart, registersPart, tables}
+use Rattle.workspace.specs.Parts.{workspaceSize, memorySize, framePlace, frameSize, notePlace, noteSize, registersPlace, registersSize, tablesPlace, memoryPart, framePart, notePart, registersPart, tables}
 use Rattle.workspace.specs.View.{view, Fit}
 use Rattle.workspace.specs.Post.{StoresCells}
 use Rattle.workspace.proofs.PartLaws.{drop-back, part-back}

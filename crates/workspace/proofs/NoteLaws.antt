@@ -18,7 +18,8 @@ use Rattle.workspace.specs.Parts.{part, workspaceSize, notePlace, noteSi
 use Rattle.workspace.specs.Note.{takenLimit, names, namesBytes, pendingIn, noted, taken, withName, Few, Open}
 use Rattle.workspace.specs.View.{Changes, leaving, noting}
 use Rattle.workspace.proofs.PartLaws.{part-part, part-above, part-stored, drop-sets-in, number-part}
-use Rattle.workspace.proofs.ValueLaws.{flag-read, flag-set}
+use Rattle.value.proofs.EncodingLaws.{flag-read}
+use Rattle.workspace.proofs.ValueLaws.{flag-set}
 use Rattle.workspace.proofs.ViewLaws.{Becomes, length-note, note-stored, changes}
 
 abbrev noteIf : Bool → List ℕ → Option (List ℕ)

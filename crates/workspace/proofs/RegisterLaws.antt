@@ -12,12 +12,13 @@ use Rattle.layout.proofs.StoreLaws.{take-sets, drop-sets}
 use Rattle.value.specs.declared.Val.{Val}
 use Rattle.memory.proofs.OverlayLaws.{below, equal, above, compared}
 use Rattle.workspace.specs.Parts.{workspaceSize, memorySize, framePlace, frameSize, notePlace, noteSize, registersPlace, registersSize, tablesPlace, memoryPart, framePart, notePart, registersPart, tables}
-use Rattle.workspace.specs.Values.{valBytes, valAt, Whole}
+use Rattle.value.specs.Encoding.{valBytes, valAt, Whole}
 use Rattle.workspace.specs.Registers.{wordCount, wordAt, valueAt}
 use Rattle.workspace.specs.View.{view}
 use Rattle.workspace.specs.Post.{Aside, SetsWord, SetsValue}
 use Rattle.workspace.proofs.PartLaws.{part-part, part-sets, part-above, part-below, number-part, number-stored, number-above, number-below}
-use Rattle.workspace.proofs.ValueLaws.{length-valBytes, val-same, val-stored}
+use Rattle.value.proofs.EncodingLaws.{length-valBytes}
+use Rattle.workspace.proofs.ValueLaws.{val-same, val-stored}
 
 length-registers : (w : List ℕ) → workspaceSize ≤ length w → length (registersPart w) ≡ registersSize
 unfolding registersPart

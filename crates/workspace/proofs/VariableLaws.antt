@@ -6,7 +6,7 @@ use Prim.Native.Nat.{ℕ, zero, suc, _+_, _≤_, _<_}
 use native.Mathlib.Nat.{add-suc, suc-add, add-zero}
 use native.Mathlib.Omega.{arith}
 use Rattle.layout.specs.Each.{Each}
-use Rattle.memory.specs.Overlay.{Overlay, find, store, Ascending}
+use Rattle.memory.specs.Overlay.{Overlay, find, store}
 use Rattle.memory.proofs.OverlayLaws.{below, equal, above, compared, less, same, more, first}
 use Rattle.workspace.specs.Variables.{those, entryIf}
 
@@ -20,15 +20,6 @@ module _ {A : Type 0} where
       go : (o : Option A) → Each (λ q. y < q .0) (those slot (suc x) n) → Each (λ q. y < q .0) (entryIf x o (those slot (suc x) n))
       go none all = all
       go (some a) all = (h, all)
-
-  pub those-ascending : (slot : ℕ → Option A) (x n : ℕ) → Ascending (those slot x n)
-  unfolding those
-  those-ascending slot x zero = tt
-  those-ascending slot x (suc n) = go (slot x) (those-ascending slot (suc x) n)
-    where
-      go : (o : Option A) → Ascending (those slot (suc x) n) → Ascending (entryIf x o (those slot (suc x) n))
-      go none s = s
-      go (some a) s = (those-above slot x (suc x) n (omega arith), s)
 
   -- ---- found
 

@@ -9,15 +9,15 @@ use lib.Seq.{sets, length-sets, length-take-le}
 use Rattle.layout.specs.Number.{putNumber}
 use Rattle.layout.proofs.StoreLaws.{take-sets, drop-sets}
 use Rattle.value.specs.declared.Val.{Val}
-use Rattle.memory.specs.Overlay.{Overlay, Cell, store}
+use Rattle.memory.specs.Overlay.{Overlay, Cell}
 use Rattle.memory.specs.Entries.{entries}
 use Rattle.workspace.specs.Parts.{workspaceSize, memorySize, framePlace, frameSize, notePlace, noteSize, registersPlace, registersSize, tablesPlace, memoryPart, framePart, notePart, registersPart, tables}
-use Rattle.workspace.specs.Values.{valBytes, Whole}
+use Rattle.value.specs.Encoding.{valBytes, Whole}
 use Rattle.workspace.specs.Variables.{slotSize, nameLimit, variablesIn}
 use Rattle.workspace.specs.Note.{pendingIn, Few}
-use Rattle.workspace.specs.View.{View, view, Fit, Does, Changes, setting}
+use Rattle.workspace.specs.View.{View, view, Changes, setting}
 use Rattle.workspace.proofs.PartLaws.{part-sets, part-above, part-below}
-use Rattle.workspace.proofs.ValueLaws.{length-valBytes}
+use Rattle.value.proofs.EncodingLaws.{length-valBytes}
 use Rattle.workspace.proofs.FrameLaws.{slotBytes, variables-set}
 
 -- the workspace w became w′, with the frame f and the note p, and all else is as it was
@@ -72,10 +72,6 @@ changes w w′ f p F b e few = record {
   size = b .size;
   registers = b .registers;
 }
-
--- where so many entries are stored
-pub does : {w w′ : List ℕ} {F : View → View} (n : ℕ) → Fit w n → Changes w F w′ → Does w n F w′ n
-does n h c = record { holds = c .holds n; tables = c .tables; fit = c .fit n h; size = c .size; registers = c .registers }
 
 -- a variable is set, its flag and then its value
 pub variable-set : (w t w′ : List ℕ) (x : ℕ) (v : Val) → workspaceSize ≤ length w → x < nameLimit → Whole v

@@ -1,5 +1,4 @@
 pub mod Parts
-pub mod Values
 pub mod Variables
 pub mod Note
 pub mod Types

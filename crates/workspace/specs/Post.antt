@@ -18,7 +18,8 @@ use Rattle.workspace.specs.declared.variables.Slot.the-variants.{Set, Un
 use Rattle.workspace.specs.declared.types.Declaration.{Declaration}
 use Rattle.workspace.specs.declared.types.Declaration.the-variants.{As, Nothing}
 use Rattle.workspace.specs.Parts.{registersPart, tables, symbolsPart, regionsPart, blocksPart}
-use Rattle.workspace.specs.Variables.{variableSize, variablesBody}
+use Rattle.definition.specs.Record.{variablesBody}
+use Rattle.workspace.specs.Variables.{variableSize}
 use Rattle.workspace.specs.Types.{declaredAt, typeAt, pointeeAt}
 use Rattle.workspace.specs.Registers.{wordCount, wordAt, valueAt}
 use Rattle.workspace.specs.View.{view, fresh, Fit, Does, storing}

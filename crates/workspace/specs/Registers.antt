@@ -3,7 +3,7 @@ use mathlib.Core.List.{List}
 use Prim.Native.Nat.{ℕ, _+_, _*_}
 use Rattle.layout.specs.Number.{numberAt}
 use Rattle.value.specs.declared.Val.{Val}
-use Rattle.workspace.specs.Values.{valAt}
+use Rattle.value.specs.Encoding.{valAt}
 
 abbrev pub wordCount : ℕ
 wordCount = 14

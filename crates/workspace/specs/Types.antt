@@ -1,7 +1,6 @@
 -- The types that names are declared with and that the routine's type table spells, each as a code of one byte: 0 for none, else the width in bytes
 -- twice, and 1 for a sign. Assumes nothing.
 use mathlib.Core.Path.{_≡_}
-use mathlib.Core.Bool.{Bool, true, false}
 use mathlib.Core.List.{List}
 use mathlib.Core.Option.{Option, none, some}
 use Prim.Native.Nat.{ℕ, zero, suc, _+_, _*_, _/_, _%_, _<_, _≤_}

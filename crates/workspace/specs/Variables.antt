@@ -5,10 +5,10 @@ use mathlib.Core.List.{List, [], _∷_}
 use mathlib.Core.Option.{Option, none, some}
 use Prim.Native.Nat.{ℕ, zero, suc, _+_, _*_}
 use Rattle.layout.specs.Number.{numberAt}
-use Rattle.layout.specs.Format.{number, pair, writes, boolOf}
+use Rattle.layout.specs.Format.{boolOf}
 use Rattle.value.specs.declared.Val.{Val}
 use Rattle.memory.specs.Overlay.{Overlay}
-use Rattle.workspace.specs.Values.{valAt, value}
+use Rattle.value.specs.Encoding.{valAt}
 
 abbrev pub slotSize : ℕ
 slotSize = 16
@@ -42,6 +42,3 @@ variableAt f x = entryIf x (slotAt f x) []
 -- "Variables, by name: u16, value": this body of a record
 abbrev pub variableSize : ℕ
 variableSize = 16
-
-unfoldable pub variablesBody : Overlay Val → List ℕ
-variablesBody m = writes (pair (number 2) value) m

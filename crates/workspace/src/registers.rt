@@ -6,8 +6,9 @@ ghost use Rattle.workspace.specs.Parts.{workspaceSize, registersPart};
 ghost use Rattle.workspace.specs.Registers.{wordCount, wordAt, valueAt};
 ghost use Rattle.workspace.specs.Post.{SetsWord, SetsValue};
 use super::REGISTERS;
-use super::variables;
 use value::Val;
+use value::encoding::get_val;
+use value::encoding::put_val;
 
 // Where the values stand, behind the words.
 const VALUES: usize = REGISTERS + 112;
@@ -30,12 +31,12 @@ pub fn value(ws: &[u8], k: usize) -> Val
     requires { ⌜ (workspaceSize ≤ length (now ws)) × (k < 2) ⌝ }
     ensures { λ r. ⌜ r ≡ valueAt (registersPart (now (ws .entry))) k ⌝ }
 {
-    variables::get_val(ws, VALUES + k * 16)
+    get_val(ws, VALUES + k * 16)
 }
 
 pub fn set_value(ws: &mut [u8], k: usize, v: Val)
     requires { ⌜ (workspaceSize ≤ length (now ws)) × (k < 2) ⌝ }
     ensures { λ _. ⌜ SetsValue (now (ws .entry)) k v (now (ws .exit)) ⌝ }
 {
-    variables::put_val(ws, VALUES + k * 16, v);
+    put_val(ws, VALUES + k * 16, v);
 }

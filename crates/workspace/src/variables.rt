@@ -6,12 +6,14 @@ ghost use lib.ListN.{length, drop};
 ghost use lib.Seq.{sets};
 ghost use Rattle.memory.specs.Overlay.{find};
 ghost use Rattle.workspace.specs.Parts.{workspaceSize, framePart};
-ghost use Rattle.workspace.specs.Values.{valBytes, valAt, valueSize};
-ghost use Rattle.workspace.specs.Variables.{nameLimit, variablesIn, variableAt, variableSize, variablesBody};
+ghost use Rattle.definition.specs.Record.{variablesBody};
+ghost use Rattle.workspace.specs.Variables.{nameLimit, variablesIn, variableAt, variableSize};
 ghost use Rattle.workspace.specs.View.{Changes, setting};
 ghost use Rattle.workspace.specs.Post.{slotAs, PutsVariables};
 use super::FRAME;
 use value::Val;
+use value::encoding::get_val;
+use value::encoding::put_val;
 
 // The most names.
 const NAME_LIMIT: usize = 512;
@@ -22,34 +24,6 @@ const SLOT: usize = 16;
 pub enum Slot {
     Set(Val),
     Unset,
-}
-
-// The value whose bytes start at an index.
-pub fn get_val(s: &[u8], at: usize) -> Val
-    requires { ⌜ at + valueSize ≤ length (now s) ⌝ }
-    ensures { λ r. ⌜ r ≡ valAt (now (s .entry)) at ⌝ }
-{
-    let known = layout::get8(s, at);
-    let signed = layout::get8(s, at + 1);
-    let bits = layout::get32(s, at + 2);
-    let number = layout::get64(s, at + 6);
-    Val {
-        known: known != 0,
-        signed: signed != 0,
-        bits: bits as u32,
-        number,
-    }
-}
-
-// A value's bytes from an index on.
-pub fn put_val(s: &mut [u8], at: usize, v: Val)
-    requires { ⌜ at + valueSize ≤ length (now s) ⌝ }
-    ensures { λ _. ⌜ now (s .exit) ≡ sets (now (s .entry)) at (valBytes v) ⌝ }
-{
-    layout::put8(s, at, v.known as u64);
-    layout::put8(s, at + 1, v.signed as u64);
-    layout::put32(s, at + 2, v.bits as u64);
-    layout::put64(s, at + 6, v.number);
 }
 
 // The variable of a name.

@@ -29,7 +29,7 @@ returns c =
     let at-get16 = at-put-named .before .before .before .before in
     let at-start = at-get16 .before .before .before .before .before in (
       put-as (put-third (text ";   ") (nameText (textsIn (now (at-start .args .names))) (at-get16 .get16 .result)) (text " = ") (at-put-named .put-named .ensures .0) (put-then (at-put-value .put-value .ensures .0) (c .before .before .put-text .ensures)))
-          (ap₂ (λ (n : ℕ) (v : Val). variableLine (textsIn (now (at-start .args .names))) (n, v)) (at-get16 .get16 .ensures .0) (at-value-at .value-at .ensures)),
+          (ap₂ (λ (n : ℕ) (v : Val). variableLine (textsIn (now (at-start .args .names))) (n, v)) (at-get16 .get16 .ensures .0) (at-value-at .get-val .ensures)),
       omega (arith, c .before .before .put-text .ensures .end),
     )
 

@@ -7,7 +7,8 @@ use Rattle.index.specs.Texts.{textCount}
 use mathlib.Core.Path.{refl, ap, sym, subst}
 use Rattle.layout.specs.Number.{numberAt}
 use Rattle.text.specs.Lines.{variableLine}
-use Rattle.text.specs.Read.{valueIn, VariableThere}
+use Rattle.value.specs.Encoding.{valAt}
+use Rattle.text.specs.Read.{VariableThere}
 use Rattle.text.proofs.PutLaws.{put-as}
 use borrow.Author.Needs.{needs}
 use Rattle.text.proofs.variable_line.Statement.{statement}
@@ -22,7 +23,7 @@ returns : tie.Need-returns
 returns c =
     let at-shared-slice-known3 = c .before .before .before .before .before .before in
     let at-start = at-shared-slice-known3 .before .before .before in
-    ((put-as (c .before .before .put-variable .ensures .0) (ap (λ (l : List ℕ). variableLine (textsIn (now (at-start .args .names))) (numberAt l 0 2, valueIn l 2)) (rest-of (now (at-start .args .variables)) (at-start .args .at))), c .before .before .put-variable .ensures .1), refl)
+    ((put-as (c .before .before .put-variable .ensures .0) (ap (λ (l : List ℕ). variableLine (textsIn (now (at-start .args .names))) (numberAt l 0 2, valAt l 2)) (rest-of (now (at-start .args .variables)) (at-start .args .at))), c .before .before .put-variable .ensures .1), refl)
 
 pub variable-line-spec : {M : Type 1} → statement M
 variable-line-spec =

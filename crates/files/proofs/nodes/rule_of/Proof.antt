@@ -1,6 +1,5 @@
 -- `rule_of` meets its contract: each arm is the definition's rule of its kind, and what the last arm gets is no kind. Assumes nothing.
 use mathlib.Core.Path.{_≡_, sym, ap}
-use mathlib.Core.List.{List, [], _∷_}
 use Prim.Native.Nat.{ℕ, zero, suc, _≤_}
 use native.Mathlib.Omega.{arith}
 use lib.ListN.{List·getD-eq-default}

@@ -16,7 +16,7 @@ returns c =
     let at-value-at = at-put-value .before in
     let at-put-text = at-value-at .before .before .before .before in (
       put-as (put-then (at-put-text .put-text .ensures) (put-then (at-put-value .put-value .ensures .0) (c .before .before .put-led .ensures .0)))
-          (ap₂ (λ (v : Val) (a : ℕ). noteText [] (valueWritten a v)) (at-value-at .value-at .ensures) (c .before .before .before .get64 .ensures)),
+          (ap₂ (λ (v : Val) (a : ℕ). noteText [] (valueWritten a v)) (at-value-at .get-val .ensures) (c .before .before .before .get64 .ensures)),
       search needs,
     )
 

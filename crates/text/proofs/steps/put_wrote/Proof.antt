@@ -29,7 +29,7 @@ returns-2 c =
     let at-if1 = at-get16 .before in
     let at-get8 = at-if1 .before in
     let at-start = at-get8 .before .before .before .before .before in (
-      put-of (wroteText (textsIn (now (at-start .args .names)))) (wrote-some (now (at-start .args .step)) (at-get8 .get8 .ensures .0) (at-if1 .if1 .left) (at-get16 .get16 .ensures .0) (c .before .before .before .value-at .ensures))
+      put-of (wroteText (textsIn (now (at-start .args .names)))) (wrote-some (now (at-start .args .step)) (at-get8 .get8 .ensures .0) (at-if1 .if1 .left) (at-get16 .get16 .ensures .0) (c .before .before .before .get-val .ensures))
           (put-third (text "  ; ") (nameText (textsIn (now (at-start .args .names))) (at-get16 .get16 .result)) (text " = ") (at-put-named .put-named .ensures .0) (c .before .before .put-value .ensures .0)),
       omega (arith, at-put-named .put-named .ensures .1, c .before .before .put-value .ensures .1),
     )

@@ -12,7 +12,7 @@ returns c =
     let at-match = c .before .before .before .before .before in
     let at-get8 = at-match .before in
     let at-start = at-get8 .before .before .before .before .before .before in
-    (put-of (stopText (textsIn (now (at-start .args .names)))) (stop-value (now (at-start .args .stop)) (at-get8 .get8 .ensures .0) (at-match .match .keys1) (c .before .before .before .value-at .ensures)) (c .before .before .put-returned .ensures .0), search needs)
+    (put-of (stopText (textsIn (now (at-start .args .names)))) (stop-value (now (at-start .args .stop)) (at-get8 .get8 .ensures .0) (at-match .match .keys1) (c .before .before .before .get-val .ensures)) (c .before .before .put-returned .ensures .0), search needs)
 
 returns-2 : tie.Need-returns-2
 returns-2 c =

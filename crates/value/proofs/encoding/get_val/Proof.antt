@@ -1,7 +1,7 @@
-use Rattle.workspace.proofs.ValueLaws.{val-read}
+use Rattle.value.proofs.EncodingLaws.{val-read}
 use borrow.Author.Needs.{needs}
-use Rattle.workspace.proofs.variables.get_val.Statement.{statement}
-use Rattle.workspace.proofs.variables.get_val.Tie as tie
+use Rattle.value.proofs.encoding.get_val.Statement.{statement}
+use Rattle.value.proofs.encoding.get_val.Tie as tie
 
 returns : tie.Need-returns
 returns c = search (needs, val-read)

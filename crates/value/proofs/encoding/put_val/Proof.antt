@@ -1,8 +1,8 @@
 use denote.Ref.{now}
-use Rattle.workspace.proofs.ValueLaws.{val-written}
+use Rattle.value.proofs.EncodingLaws.{val-written}
 use borrow.Author.Needs.{needs}
-use Rattle.workspace.proofs.variables.put_val.Statement.{statement}
-use Rattle.workspace.proofs.variables.put_val.Tie as tie
+use Rattle.value.proofs.encoding.put_val.Statement.{statement}
+use Rattle.value.proofs.encoding.put_val.Tie as tie
 
 returns : tie.Need-returns
 returns c =

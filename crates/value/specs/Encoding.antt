@@ -15,11 +15,11 @@ fromVal v = (v .known, (v .signed, (v .bits, v .number)))
 abbrev pub toVal : Bool × (Bool × (ℕ × ℕ)) → Val
 toVal p = record { known = p .0; signed = p .1 .0; bits = p .1 .1 .0; number = p .1 .1 .1 }
 
-abbrev pub value : Format Val
-value = via fromVal toVal (pair flag (pair flag (pair (number 4) (number 8))))
+abbrev pub val : Format Val
+val = via fromVal toVal (pair flag (pair flag (pair (number 4) (number 8))))
 
 unfoldable pub valBytes : Val → List ℕ
-valBytes v = value .write v
+valBytes v = val .write v
 
 -- the value whose bytes start at index i; a flag is set where it is not 0
 unfoldable pub valAt : List ℕ → ℕ → Val
