@@ -1,5 +1,5 @@
 -- What a unit buys, as runs on the code's host. Assumes nothing.
-use mathlib.Core.Path.{_≡_, refl, sym, ap, ap₂, _∙_, subst}
+use mathlib.Core.Path.{_≡_, refl, sym, ap, ap₂, _∙_, subst, fun-ext}
 use mathlib.Core.Bool.{Bool, true, false}
 use mathlib.Core.List.{List}
 use mathlib.Core.Option.{Option, none, some}
@@ -10,6 +10,7 @@ use borrow.Author.Tests.{lt-ltb, le-ltb}
 use lib.Dec.{ltb}
 use lib.ListN.{length, getD}
 use Rattle.layout.specs.Number.{numberAt}
+use Rattle.layout.proofs.NumberLaws.{numberAt-lt}
 use Rattle.files.specs.Program.{Program, treeAt, statementAt}
 use Rattle.definition.specs.Act.{Act, done, _>>=_}
 use Rattle.definition.specs.Evaluate.{Env}
@@ -30,7 +31,7 @@ use Rattle.hosting.specs.Ending.{Ending, ended, short}
 use Rattle.hosting.specs.Runs.{Kept, Runs}
 use Rattle.hosting.specs.Routine.{Rooted}
 use Rattle.hosting.specs.Walking.{stopEnd}
-use Rattle.hosting.proofs.Running.{kept-on, goes, halts, acts, done-runs}
+use Rattle.hosting.proofs.Running.{kept-on, goes, halts, acts, read, done-runs}
 use Rattle.hosting.proofs.Keeping.{kept-ready}
 use Rattle.statements.specs.declared.terminators.Spot.{Spot}
 use Rattle.statements.specs.declared.terminators.Next.{Next}
@@ -44,7 +45,7 @@ use Rattle.statements.specs.Placing.{Placing}
 use Rattle.walk.specs.Spots.{Here, PlacedAt}
 use Rattle.walk.specs.Units.{paidCounts}
 use Rattle.statements.specs.Post.{RunsStatement, blockOf, Outside, Terminates}
-use Rattle.walk.specs.Post.{Stays, Settles, RunsOn, UnitOf}
+use Rattle.walk.specs.Post.{Stays, Settles, runAct, RunsAt, aheadOf, unitAct, UnitOf}
 
 -- ---- before a statement of a block
 
@@ -77,16 +78,53 @@ module _ {g : Given} {ss blocks : List ℕ} {p : Place} {b k n : ℕ} (count : (
     stays = outside-stays blocks p b (r .next) (t .outside);
   }
 
--- ---- after a statement
+-- ---- what is run at a spot
 
 pub statement-inside : {nodes ss blocks : List ℕ} {p : Place} {k : ℕ} → Placing nodes ss blocks p → Here blocks p k → (p .first + k) * 13 + 13 ≤ length ss
 statement-inside all h = omega (arith, all .dealt .dealt, h .below)
 
-pub on-ready : {g : Given} {ss : List ℕ} {f : Facts} {b k : ℕ} {w₀ o₀ w o : List ℕ} {a₀ : Counts} {r : Stepped} → RunsStatement g ss f b k w₀ o₀ a₀ r w o → r .halt ≡ Not → Ready g w (r .at)
-on-ready {g} {w = w} {r = r} x e = subst (λ (h : Halt). Kept (haltEnd 0 h) (Ready g w (r .at))) e (x .ready)
+pub statement-small : {blocks : List ℕ} {p : Place} {k : ℕ} → Here blocks p k → k < 65536
+statement-small {blocks} {p} h = omega (arith, h .below, numberAt-lt blocks (p .start) 2)
 
-on-tables : {g : Given} {ss : List ℕ} {f : Facts} {b k : ℕ} {w₀ o₀ w o : List ℕ} {a₀ : Counts} {r : Stepped} → RunsStatement g ss f b k w₀ o₀ a₀ r w o → r .halt ≡ Not → tables w ≡ tables w₀
-on-tables {w₀ = w₀} {w = w} x e = subst (λ (h : Halt). Kept (haltEnd 0 h) (tables w ≡ tables w₀)) e (x .tables)
+-- a spot, by whether it is in a block
+abbrev spotBy : Spot → Bool → Spot
+spotBy s i = record { block = s .block; statement = s .statement; inside = i }
+
+module _ {g : Given} {ss : List ℕ} {f : Facts} {p : Place} {s : Spot} where
+  pub runs-statement : {w₀ o₀ w o : List ℕ} {a₀ : Counts} {r : Stepped} → s .inside ≡ true → RunsStatement g ss f (s .block) (p .first + s .statement) w₀ o₀ a₀ r w o → RunsAt g ss f p s w₀ o₀ a₀ r w o
+  runs-statement e q = record {
+    runs = λ P named limit. acts (λ x h. ap (λ (i : Bool). runAct P (x .env) (g .nodes) ss p (spotBy s i)) e) (q .runs P named limit);
+    ready = q .ready;
+    tables = q .tables;
+  }
+
+  pub runs-nothing : {w o : List ℕ} {a : Counts} → s .inside ≡ false → Ready g w a → RunsAt g ss f p s w o a (record { halt = Not; at = a }) w o
+  runs-nothing e r = record {
+    runs = λ P named limit. acts (λ x h. ap (λ (i : Bool). runAct P (x .env) (g .nodes) ss p (spotBy s i)) e) (done-runs (λ x. none) (λ x h. refl) r);
+    ready = r;
+    tables = refl;
+  }
+
+-- ---- what a unit buys
+
+-- the walk settles before statement n, unless what was run stops it
+abbrev settling : Env → (nodes ss blocks : List ℕ) → Place → (b n : ℕ) → Option statements.Stop → Act walk.Next
+settling E nodes ss blocks p b n none = walk.settle E b (blockOf nodes ss blocks p) n
+settling E nodes ss blocks p b n (some s) = done (walk.stops s)
+
+-- what is run at the spot, and then that
+unit-parts : (P : Program) (E : Env) (nodes ss blocks : List ℕ) (p : Place) (s : Spot)
+    → unitAct P E nodes ss blocks p s ≡ (runAct P E nodes ss p s >>= settling E nodes ss blocks p (s .block) (aheadOf s))
+unfolding _>>=_
+unit-parts P E nodes ss blocks p s = go (s .inside)
+  where
+    onward-is : (o : Option statements.Stop) → walk.onward E (s .block) (blockOf nodes ss blocks p) (s .statement) o ≡ settling E nodes ss blocks p (s .block) (s .statement + 1) o
+    onward-is none = ap (walk.settle E (s .block) (blockOf nodes ss blocks p)) (sym (add-one (s .statement)))
+    onward-is (some h) = refl
+
+    go : (i : Bool) → unitAct P E nodes ss blocks p (spotBy s i) ≡ (runAct P E nodes ss p (spotBy s i) >>= settling E nodes ss blocks p (s .block) (aheadOf (spotBy s i)))
+    go true = ap (λ (k : Option statements.Stop → Act walk.Next). statements.runStatement P E (s .block) (statementAt nodes ss (p .first + s .statement)) >>= k) (fun-ext onward-is)
+    go false = refl
 
 stopped-runs : {g : Given} {m : Scene → Act (Option statements.Stop)} (f : Scene → Option statements.Stop → Act walk.Next) {w₀ o₀ w o : List ℕ} {a₀ a : Counts} (e : Ending statements.Stop)
     → ((x : Scene) (s : statements.Stop) → f x (some s) ≡ done (walk.stops s)) → Runs g m w₀ o₀ a₀ (someEnd e) w o a → Runs g (λ x. m x >>= f x) w₀ o₀ a₀ (stopsEnd e) w o a
@@ -98,52 +136,32 @@ stopped-kept F (ended s) h = h
 stopped-kept F (short none) h = tt
 stopped-kept F (short (some y)) h = h
 
-module _ {g : Given} {ss blocks : List ℕ} {f : Facts} {p : Place} {b k : ℕ} {w₀ o₀ w o : List ℕ} {a₀ : Counts} {r : Stepped} (ran : RunsStatement g ss f b (p .first + k) w₀ o₀ a₀ r w o) where
-  pub stops-on : {stop : Stop} → r .halt ≡ With stop → RunsOn g ss blocks f p b k w₀ o₀ a₀ (record { next = Stops stop; at = r .at }) w o
-  stops-on {stop} e = record {
+kept-halt : (F : Type 0) {h h′ : Halt} → h ≡ h′ → Kept (haltEnd 0 h) F → Kept (haltEnd 0 h′) F
+kept-halt F e k = subst (λ (h : Halt). Kept (haltEnd 0 h) F) e k
+
+module _ {g : Given} {ss : List ℕ} {f : Facts} {p : Place} {s : Spot} {w₀ o₀ w o : List ℕ} {a₀ : Counts} {r : Stepped} (ran : RunsAt g ss f p s w₀ o₀ a₀ r w o) where
+  pub on-ready : r .halt ≡ Not → Ready g w (r .at)
+  on-ready e = kept-halt (Ready g w (r .at)) e (ran .ready)
+
+  pub unit-stops : {blocks : List ℕ} {stop : Stop} → r .halt ≡ With stop → UnitOf g ss blocks f p s w₀ o₀ a₀ (record { next = Stops stop; at = r .at }) w o
+  unit-stops {blocks} {stop} e = record {
     runs = λ P named limit.
-        stopped-runs (λ x. walk.onward (x .env) b (blockOf (g .nodes) ss blocks p) k) (stopEnd limit stop) (λ x s. refl)
-        (subst (λ (h : Halt). Runs g (λ x. statements.runStatement P (x .env) b (statementAt (g .nodes) ss (p .first + k))) w₀ o₀ a₀ (haltEnd limit h) w o (r .at)) e (ran .runs P named limit));
-    ready = stopped-kept (Ready g w (r .at)) (stopEnd 0 stop) (subst (λ (h : Halt). Kept (haltEnd 0 h) (Ready g w (r .at))) e (ran .ready));
-    tables = stopped-kept (tables w ≡ tables w₀) (stopEnd 0 stop) (subst (λ (h : Halt). Kept (haltEnd 0 h) (tables w ≡ tables w₀)) e (ran .tables));
+        acts (λ x h. unit-parts P (x .env) (g .nodes) ss blocks p s)
+        (stopped-runs (λ x. settling (x .env) (g .nodes) ss blocks p (s .block) (aheadOf s)) (stopEnd limit stop) (λ x z. refl) (read (haltEnd limit) e (ran .runs P named limit)));
+    ready = stopped-kept (Ready g w (r .at)) (stopEnd 0 stop) (kept-halt (Ready g w (r .at)) e (ran .ready));
+    tables = stopped-kept (tables w ≡ tables w₀) (stopEnd 0 stop) (kept-halt (tables w ≡ tables w₀) e (ran .tables));
     stays = tt;
   }
 
-  pub goes-on : {w′ o′ : List ℕ} {q : Moved} → r .halt ≡ Not → Settles g ss blocks p b (k + 1) w o (r .at) q w′ o′ → RunsOn g ss blocks f p b k w₀ o₀ a₀ q w′ o′
-  goes-on {q = q} e s = record {
+  pub unit-settles : {blocks : List ℕ} {n : ℕ} {w′ o′ : List ℕ} {q : Moved} → r .halt ≡ Not → n ≡ aheadOf s → Settles g ss blocks p (s .block) n w o (r .at) q w′ o′ → UnitOf g ss blocks f p s w₀ o₀ a₀ q w′ o′
+  unit-settles {blocks} {q = q} e is z = record {
     runs = λ P named limit.
-        goes (λ x. walk.onward (x .env) b (blockOf (g .nodes) ss blocks p) k)
-        (subst (λ (h : Halt). Runs g (λ x. statements.runStatement P (x .env) b (statementAt (g .nodes) ss (p .first + k))) w₀ o₀ a₀ (haltEnd limit h) w o (r .at)) e (ran .runs P named limit))
-        (acts (λ x h. ap (walk.settle (x .env) b (blockOf (g .nodes) ss blocks p)) (sym (add-one k))) (s .runs limit));
-    ready = s .runs 0 .ready;
-    tables = kept-on (nextEnd 0 (q .next)) (λ t. t ∙ on-tables ran e) (s .runs 0 .tables);
-    stays = s .stays;
-  }
-
--- ---- either
-
--- what is bought, by whether the spot is in a block
-abbrev actBy : Program → Env → (nodes ss blocks : List ℕ) → Place → (b k : ℕ) → Bool → Act walk.Next
-actBy P E nodes ss blocks p b k i = elim i [
-  | true ↦ statements.runStatement P E b (statementAt nodes ss (p .first + k)) >>= walk.onward E b (blockOf nodes ss blocks p) k
-  | false ↦ walk.settle E b (blockOf nodes ss blocks p) 0
-]
-
-module _ {g : Given} {ss blocks : List ℕ} {f : Facts} {p : Place} {s : Spot} {w₀ o₀ w o : List ℕ} {a₀ : Counts} {r : Moved} where
-  pub unit-runs : s .inside ≡ true → RunsOn g ss blocks f p (s .block) (s .statement) w₀ o₀ a₀ r w o → UnitOf g ss blocks f p s w₀ o₀ a₀ r w o
-  unit-runs e q = record {
-    runs = λ P named limit. acts (λ x h. ap (actBy P (x .env) (g .nodes) ss blocks p (s .block) (s .statement)) e) (q .runs P named limit);
-    ready = q .ready;
-    tables = q .tables;
-    stays = q .stays;
-  }
-
-  pub unit-settles : s .inside ≡ false → Settles g ss blocks p (s .block) 0 w₀ o₀ a₀ r w o → UnitOf g ss blocks f p s w₀ o₀ a₀ r w o
-  unit-settles e q = record {
-    runs = λ P named limit. acts (λ x h. ap (actBy P (x .env) (g .nodes) ss blocks p (s .block) (s .statement)) e) (q .runs limit);
-    ready = q .runs 0 .ready;
-    tables = q .runs 0 .tables;
-    stays = q .stays;
+        acts (λ x h. unit-parts P (x .env) (g .nodes) ss blocks p s)
+        (goes (λ x. settling (x .env) (g .nodes) ss blocks p (s .block) (aheadOf s)) (read (haltEnd limit) e (ran .runs P named limit))
+        (acts (λ x h. ap (walk.settle (x .env) (s .block) (blockOf (g .nodes) ss blocks p)) (sym is)) (z .runs limit)));
+    ready = z .runs 0 .ready;
+    tables = kept-on (nextEnd 0 (q .next)) (λ t. t ∙ kept-halt (tables w ≡ tables w₀) e (ran .tables)) (z .runs 0 .tables);
+    stays = z .stays;
   }
 
 -- ---- the block of a spot

@@ -2,6 +2,7 @@
 use mathlib.Core.Path.{_≡_}
 use mathlib.Core.Bool.{true, false}
 use mathlib.Core.List.{List}
+use mathlib.Core.Option.{Option, none}
 use Prim.Native.Nat.{ℕ, _+_, _<_}
 use Rattle.layout.specs.Number.{numberAt}
 use Rattle.files.specs.Program.{Program, statementAt}
@@ -23,7 +24,8 @@ use Rattle.statements.specs.declared.terminators.Spot.{Spot}
 use Rattle.statements.specs.declared.terminators.Next.{Next}
 use Rattle.statements.specs.declared.terminators.Next.the-variants.{Stops, Goes}
 use Rattle.statements.specs.declared.terminators.Moved.{Moved}
-use Rattle.statements.specs.Endings.{placeOf, nextEnd}
+use Rattle.statements.specs.declared.statements.Stepped.{Stepped}
+use Rattle.statements.specs.Endings.{haltEnd, placeOf, nextEnd}
 use Rattle.statements.specs.Sorts.{Named}
 use Rattle.statements.specs.Post.{blockOf}
 use Rattle.walk.specs.Spots.{PlacedAt}
@@ -40,12 +42,21 @@ pub record Settles (g : Given) (ss blocks : List ℕ) (p : Place) (b k : ℕ) (w
   pub runs : (limit : ℕ) → Runs g (λ x. walk.settle (x .env) b (blockOf (g .nodes) ss blocks p) k) w₀ o₀ a₀ (nextEnd limit (r .next)) w o (r .at)
   pub stays : Stays blocks p b (r .next)
 
-pub record RunsOn (g : Given) (ss blocks : List ℕ) (f : Facts) (p : Place) (b k : ℕ) (w₀ o₀ : List ℕ) (a₀ : Counts) (r : Moved) (w o : List ℕ) : Type 0 where
-  pub runs : (P : Program) → Named f P → (limit : ℕ)
-      → Runs g (λ x. statements.runStatement P (x .env) b (statementAt (g .nodes) ss (p .first + k)) >>= walk.onward (x .env) b (blockOf (g .nodes) ss blocks p) k) w₀ o₀ a₀ (nextEnd limit (r .next)) w o (r .at)
-  pub ready : Kept (nextEnd 0 (r .next)) (Ready g w (r .at))
-  pub tables : Kept (nextEnd 0 (r .next)) (tables w ≡ tables w₀)
-  pub stays : Stays blocks p b (r .next)
+-- what a unit runs at a spot before the walk settles: the statement there, or nothing where a block is entered
+abbrev pub runAct : Program → Env → (nodes ss : List ℕ) → Place → Spot → Act (Option statements.Stop)
+runAct P E nodes ss p s = elim (s .inside) [
+  | true ↦ statements.runStatement P E (s .block) (statementAt nodes ss (p .first + s .statement))
+  | false ↦ done none
+]
+
+pub record RunsAt (g : Given) (ss : List ℕ) (f : Facts) (p : Place) (s : Spot) (w₀ o₀ : List ℕ) (a₀ : Counts) (r : Stepped) (w o : List ℕ) : Type 0 where
+  pub runs : (P : Program) → Named f P → (limit : ℕ) → Runs g (λ x. runAct P (x .env) (g .nodes) ss p s) w₀ o₀ a₀ (haltEnd limit (r .halt)) w o (r .at)
+  pub ready : Kept (haltEnd 0 (r .halt)) (Ready g w (r .at))
+  pub tables : Kept (haltEnd 0 (r .halt)) (tables w ≡ tables w₀)
+
+-- the statement before which it then settles
+abbrev pub aheadOf : Spot → ℕ
+aheadOf s = elim (s .inside) [ true ↦ s .statement + 1 | false ↦ 0 ]
 
 -- what a unit buys at a spot of the walk
 abbrev pub unitAct : Program → Env → (nodes statements blocks : List ℕ) → Place → Spot → Act walk.Next

@@ -1,17 +1,18 @@
 // The walk over a routine's blocks, one unit at a time: a block is entered or a statement run, and the terminator that follows costs nothing.
 ghost use mathlib.Core.Path.{_≡_};
 ghost use mathlib.Core.Bool.{true};
-ghost use Prim.Native.Nat.{_+_, _<_, _≤_};
+ghost use Prim.Native.Nat.{_+_, _*_, _<_, _≤_};
 ghost use lib.ListN.{length};
 ghost use Rattle.index.specs.Blocks.{BlockTold, Placed};
 ghost use Rattle.workspace.specs.Parts.{workspaceSize, tables, blocksPart};
 ghost use Rattle.hosting.specs.Scene.{given, Ready};
 ghost use Rattle.hosting.specs.Routine.{Rooted};
 ghost use Rattle.hosting.specs.Walking.{WalksAll};
+ghost use Rattle.statements.specs.Sorts.{RootsOf};
 ghost use Rattle.statements.specs.Placing.{Placing};
 ghost use Rattle.walk.specs.Spots.{PlacedAt, Here};
 ghost use Rattle.walk.specs.Units.{Balanced, paidCounts, withUnits};
-ghost use Rattle.walk.specs.Post.{Settles, RunsOn, UnitOf, Turns, WalksFrom};
+ghost use Rattle.walk.specs.Post.{Settles, RunsAt, aheadOf, UnitOf, Turns, WalksFrom};
 use hosting::Counts;
 use hosting::Facts;
 use hosting::How;
@@ -20,6 +21,7 @@ use hosting::Tally;
 use hosting::Walked;
 use index::blocks::Place;
 use statements::statements::Halt;
+use statements::statements::Stepped;
 use statements::terminators::Moved;
 use statements::terminators::Next;
 use statements::terminators::Spot;
@@ -67,8 +69,59 @@ fn settle(
     )
 }
 
-// Statement k of the block at a place, and what comes after it.
-fn run_on(
+// What a unit runs at a spot before the walk settles: the statement there, or nothing where a block is entered.
+fn run_at(
+    nodes: &[u8],
+    statements: &[u8],
+    symbols: &[u8],
+    regions: &[u8],
+    ws: &mut [u8],
+    out: &mut [u8],
+    how: How,
+    facts: Facts,
+    place: Place,
+    spot: Spot,
+    at: Counts,
+) -> Stepped
+    requires { ⌜ Ready (given (now nodes) (now symbols) (now regions) how) (now ws) at ⌝ }
+    requires { ⌜ (RootsOf (now nodes) (now statements)) × ((spot .inside ≡ true) → (place .first + spot .statement) * 13 + 13 ≤ length (now statements)) ⌝ }
+    ensures { λ r. ⌜ RunsAt (given (now (nodes .entry)) (now (symbols .entry)) (now (regions .entry)) how) (now (statements .entry)) facts place spot (now (ws .entry)) (now (out .entry)) at r (now (ws .exit)) (now (out .exit)) ⌝ }
+{
+    if spot.inside {
+        return statements::statements::statement(
+            nodes,
+            statements,
+            symbols,
+            regions,
+            ws,
+            out,
+            how,
+            facts,
+            spot.block,
+            place.first + spot.statement,
+            at,
+        );
+    }
+    Stepped {
+        halt: Halt::Not,
+        at,
+    }
+}
+
+// The statement ahead of a spot: the one after it, or the first of a block that is entered.
+fn ahead(spot: Spot) -> usize
+    requires { ⌜ ((spot .inside ≡ true) → spot .statement < 65536) ⌝ }
+    ensures { λ r. ⌜ r ≡ aheadOf spot ⌝ }
+{
+    if spot.inside {
+        return spot.statement + 1;
+    }
+    0
+}
+
+// What one unit buys: the block at a place is entered, or a statement of it run.
+// Both come to the only call of `settle`: with two the compiler makes a function of it, and each unit pays for a call with twelve arguments.
+fn unit(
     nodes: &[u8],
     statements: &[u8],
     blocks: &[u8],
@@ -79,16 +132,14 @@ fn run_on(
     how: How,
     facts: Facts,
     place: Place,
-    block: usize,
-    k: usize,
+    spot: Spot,
     at: Counts,
 ) -> Moved
     requires { ⌜ Ready (given (now nodes) (now symbols) (now regions) how) (now ws) at ⌝ }
-    requires { ⌜ (Placing (now nodes) (now statements) (now blocks) place) × Here (now blocks) place k ⌝ }
-    ensures { λ r. ⌜ RunsOn (given (now (nodes .entry)) (now (symbols .entry)) (now (regions .entry)) how) (now (statements .entry)) (now (blocks .entry)) facts place block k (now (ws .entry)) (now (out .entry)) at r (now (ws .exit)) (now (out .exit)) ⌝ }
+    requires { ⌜ (Placing (now nodes) (now statements) (now blocks) place) × ((spot .inside ≡ true) → Here (now blocks) place (spot .statement)) ⌝ }
+    ensures { λ r. ⌜ UnitOf (given (now (nodes .entry)) (now (symbols .entry)) (now (regions .entry)) how) (now (statements .entry)) (now (blocks .entry)) facts place spot (now (ws .entry)) (now (out .entry)) at r (now (ws .exit)) (now (out .exit)) ⌝ }
 {
-    let first = place.first;
-    let s = statements::statements::statement(
+    let s = run_at(
         nodes,
         statements,
         symbols,
@@ -97,8 +148,8 @@ fn run_on(
         out,
         how,
         facts,
-        block,
-        first + k,
+        place,
+        spot,
         at,
     );
     let halt = s.halt;
@@ -118,63 +169,11 @@ fn run_on(
             out,
             how,
             place,
-            block,
-            k + 1,
+            spot.block,
+            ahead(spot),
             after,
         ),
     }
-}
-
-// What one unit buys: the block at a place is entered, or a statement of it run.
-fn unit(
-    nodes: &[u8],
-    statements: &[u8],
-    blocks: &[u8],
-    symbols: &[u8],
-    regions: &[u8],
-    ws: &mut [u8],
-    out: &mut [u8],
-    how: How,
-    facts: Facts,
-    place: Place,
-    spot: Spot,
-    at: Counts,
-) -> Moved
-    requires { ⌜ Ready (given (now nodes) (now symbols) (now regions) how) (now ws) at ⌝ }
-    requires { ⌜ (Placing (now nodes) (now statements) (now blocks) place) × ((spot .inside ≡ true) → Here (now blocks) place (spot .statement)) ⌝ }
-    ensures { λ r. ⌜ UnitOf (given (now (nodes .entry)) (now (symbols .entry)) (now (regions .entry)) how) (now (statements .entry)) (now (blocks .entry)) facts place spot (now (ws .entry)) (now (out .entry)) at r (now (ws .exit)) (now (out .exit)) ⌝ }
-{
-    if spot.inside {
-        return run_on(
-            nodes,
-            statements,
-            blocks,
-            symbols,
-            regions,
-            ws,
-            out,
-            how,
-            facts,
-            place,
-            spot.block,
-            spot.statement,
-            at,
-        );
-    }
-    settle(
-        nodes,
-        statements,
-        blocks,
-        symbols,
-        regions,
-        ws,
-        out,
-        how,
-        place,
-        spot.block,
-        0,
-        at,
-    )
 }
 
 // A unit is spent, on a block or on a statement.

@@ -1,13 +1,35 @@
-use Rattle.walk.proofs.UnitLaws.{unit-runs, unit-settles}
+use Rattle.walk.proofs.UnitLaws.{statement-inside, statement-small, on-ready, unit-stops, unit-settles}
 use borrow.Author.Needs.{needs}
 use Rattle.walk.proofs.unit.Statement.{statement}
 use Rattle.walk.proofs.unit.Tie as tie
 
-run-on-requires : tie.Need-run-on-requires
-run-on-requires c κs =
+run-at-requires : tie.Need-run-at-requires
+run-at-requires c κs =
     let c₁ = c .before .before .before .before .before .before in
-    let start = c₁ .before .before .before .before in
-    (start .pre .0, (start .pre .1 .0, start .pre .1 .1 (c .before .before .if1 .taken)))
+    let start = c₁ .before .before .before in
+    (start .pre .0, (start .pre .1 .0 .roots, λ e. statement-inside (start .pre .1 .0) (start .pre .1 .1 e)))
+
+enum-known-halt : tie.Need-enum-known-halt
+enum-known-halt c = search needs
+
+enum-told : tie.Need-enum-told
+enum-told c = search needs
+
+ahead-requires : tie.Need-ahead-requires
+ahead-requires c κs =
+    let c₁ = c .before .before .before .before .before .before in
+    let c₂ = c₁ .before .before .before .before .before .before in
+    let c₃ = c₂ .before .before .before .before .before .before in
+    let start = c₃ .before in
+    λ e. statement-small (start .pre .1 .1 e)
+
+settle-requires : tie.Need-settle-requires
+settle-requires c κs =
+    let c₁ = c .before .before .before .before .before .before in
+    let c₂ = c₁ .before .before .before .before .before .before in
+    let c₃ = c₂ .before .before .before .before .before .before in
+    let start = c₃ .before .before in
+    (on-ready (c₁ .before .before .before .before .run-at .ensures) (c .before .before .before .enum-told .given .1), start .pre .1 .0)
 
 same-length : tie.Need-same-length
 same-length c = search needs
@@ -16,10 +38,7 @@ same-length-2 : tie.Need-same-length-2
 same-length-2 c = search needs
 
 returns : tie.Need-returns
-returns c = search (needs, unit-runs)
-
-settle-requires : tie.Need-settle-requires
-settle-requires c κs = search needs
+returns c = search (needs, unit-stops)
 
 same-length-3 : tie.Need-same-length-3
 same-length-3 c = search needs
@@ -34,11 +53,14 @@ pub unit-spec : {M : Type 1} → statement M
 unit-spec =
     tie.close
     (tie.spec
-    run-on-requires
+    run-at-requires
+    enum-known-halt
+    enum-told
+    ahead-requires
+    settle-requires
     same-length
     same-length-2
     returns
-    settle-requires
     same-length-3
     same-length-4
     returns-2)
