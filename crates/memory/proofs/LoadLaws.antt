@@ -3,16 +3,17 @@ use mathlib.Core.Path.{_≡_, refl, sym, ap, _∙_}
 use mathlib.Core.List.{List, [], _∷_}
 use mathlib.Core.Option.{Option, none, some}
 use Prim.Native.Nat.{ℕ, zero, suc, _+_, _-_, _*_, _/_, _%_, _^_, _≤_, _<_}
-use native.Mathlib.Nat.{pow-suc, pow-le-pow-right, mul-le-mul, mul-le-mul-left, mul-comm, mod-eq-of-lt}
+use native.Mathlib.Nat.{pow-suc, pow-le-pow-right, mul-le-mul, mul-le-mul-left, mul-comm, mod-one, mod-eq-of-lt}
 use native.Mathlib.Numerals.{add-one}
 use native.Mathlib.Omega.{arith}
 use lib.Dec.{lit<}
+use lib.Pow.{mod-pow-add}
 use lib.ListN.{drop}
 use Rattle.layout.specs.Number.{le, num}
 use Rattle.memory.specs.declared.Found.the-variants.{Byte, Nothing}
 use Rattle.memory.specs.declared.row.Next.the-variants.{Read, Missing}
 use Rattle.memory.specs.Overlay.{Overlay, Cell, Ascending, toByte, find, rank, byteOr, gather, load}
-use Rattle.memory.specs.Post.{foundAs, nextAs}
+use Rattle.memory.specs.Post.{foundAs, nextAs, Untouched}
 use Rattle.memory.proofs.OverlayLaws.{below, equal, above, compared, rank-zero, rank-found, rank-lost}
 
 -- ---- the image's answer
@@ -160,3 +161,38 @@ pub load-last : (m : Overlay Cell) (image : List ℕ) (a n v p : ℕ) → n ≡ 
 unfolding load gather
 load-last m image a zero v p h = ap some (omega arith)
 load-last m image a (suc n) v p h = absurd (omega arith)
+
+-- ---- the image's own bytes, where the overlay has none
+
+pub load-untouched : (n : ℕ) (m : Overlay Cell) (image : List ℕ) (a b : ℕ) → Untouched m a n → load m image a n ≡ load [] image b n
+unfolding load gather find
+load-untouched zero m image a b none-there = refl
+load-untouched (suc n) m image a b none-there =
+    let z : a + 0 ≡ a = omega arith in
+    let here : find (a % 2 ^ 64) m ≡ none = rw z at (none-there 0 (omega arith)) in
+    let rest : Untouched m (suc a) n =
+    λ k h. let e : a + suc k ≡ suc a + k = omega arith in rw e at (none-there (suc k) (omega arith)) in
+    load-suc m image a n
+    ∙ ap (λ (o : Option Cell). joined (byteOr (toByte o) image) (load m (drop 1 image) (suc a) n)) here
+    ∙ ap (joined (byteOr none image)) (load-untouched n m (drop 1 image) (suc a) (suc b) rest)
+    ∙ sym (load-suc [] image b n)
+
+pub image-short : (n c v a : ℕ) → c < n → load [] (le c v) a n ≡ none
+unfolding find
+image-short zero c v a h = absurd (omega arith)
+image-short (suc n) zero v a h = load-suc [] [] a n
+image-short (suc n) (suc c) v a h =
+    load-suc [] (le (suc c) v) a n ∙ ap (joined (some (v % 256))) (image-short n c (v / 256) (suc a) (omega arith))
+
+pub image-full : (n c v a : ℕ) → n ≤ c → load [] (le c v) a n ≡ some (num (le n v))
+unfolding load gather find
+image-full zero c v a h = refl
+image-full (suc n) zero v a h = absurd (omega arith)
+image-full (suc n) (suc c) v a h =
+    load-suc [] (le (suc c) v) a n ∙ ap (joined (some (v % 256))) (image-full n c (v / 256) (suc a) (omega arith))
+
+pub low-bytes : (n v : ℕ) → num (le n v) ≡ v % 2 ^ (8 * n)
+low-bytes zero v = sym (mod-one v)
+low-bytes (suc n) v =
+    let e : 8 * suc n ≡ 8 * n + 8 = omega arith in
+    rw e (omega (arith, low-bytes n (v / 256), mod-pow-add v (8 * n) 8))

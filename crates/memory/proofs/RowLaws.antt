@@ -2,7 +2,8 @@
 use mathlib.Core.Path.{_≡_, sym, ap, _∙_}
 use mathlib.Core.List.{List}
 use mathlib.Core.Option.{none, some}
-use Prim.Native.Nat.{ℕ, suc, _+_, _*_, _^_, _≤_, _<_}
+use Prim.Native.Nat.{ℕ, suc, _+_, _*_, _%_, _^_, _≤_, _<_}
+use native.Mathlib.Nat.{mod-eq-of-lt}
 use native.Mathlib.Numerals.{add-one}
 use native.Mathlib.Omega.{arith}
 use lib.ListN.{length, take, getD}
@@ -12,7 +13,8 @@ use Rattle.layout.proofs.NumberLaws.{numberAt-one}
 use Rattle.layout.proofs.FormatLaws.{Sound, number-sound, pair-sound}
 use Rattle.memory.specs.Overlay.{Cell, byteOf, toByte, find, rank}
 use Rattle.memory.specs.Entries.{entry, entrySize, rowOf, IsRow}
-use Rattle.memory.proofs.OverlayLaws.{key, rank-below, rank-above, rank-most, Stands, find-at, find-none, rank-found, rank-lost}
+use Rattle.memory.specs.Post.{Untouched}
+use Rattle.memory.proofs.OverlayLaws.{below, equal, above, compared, rank-mono, key, rank-below, rank-above, rank-most, Stands, find-at, find-none, rank-found, rank-lost}
 use Rattle.memory.proofs.EntryLaws.{Sized, number-sized, pair-sized, length-reads, reads-at}
 
 pub entry-sized : Sized entry entrySize
@@ -90,3 +92,16 @@ rank-there s n a i q e h k =
 pub rank-not-there : (s : List ℕ) (n a i : ℕ) → i ≡ rank a (rowOf s n) → (i < n → numberAt s (i * entrySize) 8 ≡ a → ⊥) → i ≡ rank (a + 1) (rowOf s n)
 rank-not-there s n a i e new =
     e ∙ sym (rank-lost a (rowOf s n) (find-none a blank (rowOf s n) (stands-not s n a i e new))) ∙ ap (λ (x : ℕ). rank x (rowOf s n)) (sym (add-one a))
+
+-- ---- no address of several has an entry
+
+pub none-there : (s : List ℕ) (n a b i : ℕ) → i ≡ rank a (rowOf s n) → a + b ≤ 2 ^ 64 → (i < n → a + b ≤ numberAt s (i * entrySize) 8) → Untouched (rowOf s n) a b
+none-there s n a b i e w past k l =
+    let here : (a + k) % 2 ^ 64 ≡ a + k = mod-eq-of-lt (omega arith) in
+    let same : i ≡ rank (a + k) (rowOf s n) =
+    elim (compared i n) [
+      | below h _ ↦ omega (arith, rank-mono a (a + k) (rowOf s n) (omega arith), search-down s n (a + k) i h (omega (arith, past h)))
+      | equal h _ ↦ omega (arith, rank-mono a (a + k) (rowOf s n) (omega arith), search-most s n (a + k))
+      | above h _ ↦ omega (arith, rank-mono a (a + k) (rowOf s n) (omega arith), search-most s n (a + k))
+    ] in
+    rw here (find-none (a + k) blank (rowOf s n) (stands-not s n (a + k) i same (λ h g. omega (arith, past h))))

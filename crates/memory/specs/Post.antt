@@ -2,7 +2,7 @@
 use mathlib.Core.Path.{_≡_}
 use mathlib.Core.List.{List}
 use mathlib.Core.Option.{Option, none, some}
-use Prim.Native.Nat.{ℕ, _+_, _-_, _*_, _^_, _<_, _≤_, min}
+use Prim.Native.Nat.{ℕ, _+_, _-_, _*_, _%_, _^_, _<_, _≤_, min}
 use lib.ListN.{length}
 use Rattle.memory.specs.declared.Stored.{Stored}
 use Rattle.memory.specs.declared.Stored.the-variants.{Count, Full}
@@ -12,7 +12,7 @@ use Rattle.memory.specs.declared.Loaded.{Loaded}
 use Rattle.memory.specs.declared.Loaded.the-variants.{Known, Unknown}
 use Rattle.memory.specs.declared.row.Next.{Next}
 use Rattle.memory.specs.declared.row.Next.the-variants.{Read, Missing}
-use Rattle.memory.specs.Overlay.{Overlay, Cell, rank}
+use Rattle.memory.specs.Overlay.{Overlay, Cell, find, rank}
 use Rattle.memory.specs.declared.Move.{Move}
 use Rattle.memory.specs.declared.row.Span.{Span}
 use Rattle.memory.specs.Entries.{Sorted, entries, entrySize, limit, piece}
@@ -28,6 +28,10 @@ loadedAs (some v) = Known v
 abbrev pub nextAs : Option ℕ → ℕ → Next
 nextAs none i = Missing
 nextAs (some b) i = Read b i
+
+-- none of n addresses from one on has an entry
+abbrev pub Untouched : Overlay Cell → ℕ → ℕ → Type 0
+Untouched m a n = (k : ℕ) → k < n → find ((a + k) % 2 ^ 64) m ≡ none
 
 -- the first n entries of a part are the overlay m
 pub record Holds (m : Overlay Cell) (s : List ℕ) (n : ℕ) : Type 0 where

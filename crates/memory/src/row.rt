@@ -1,10 +1,12 @@
 // What the addresses from one on have in a row of entries: one search, then a step for each.
 ghost use mathlib.Core.Path.{_≡_};
+ghost use mathlib.Core.Bool.{true};
+ghost use mathlib.Core.List.{[]};
 ghost use Prim.Native.Nat.{suc, _+_, _*_, _%_, _^_, _<_, _≤_};
-ghost use Rattle.layout.specs.Number.{le};
+ghost use Rattle.layout.specs.Number.{le, num};
 ghost use Rattle.memory.specs.Overlay.{toByte, find as findIn, rank, byteOr, load as loadIn};
 ghost use Rattle.memory.specs.Entries.{IsRow, rowOf};
-ghost use Rattle.memory.specs.Post.{foundAs, loadedAs, nextAs, Spans};
+ghost use Rattle.memory.specs.Post.{foundAs, loadedAs, nextAs, Untouched, Spans};
 use super::ENTRY;
 use super::Found;
 use super::Image;
@@ -114,23 +116,68 @@ fn joined(number: u64, i: usize, byte: u8) -> u64
     number + ((byte as u64) << (8 * i))
 }
 
-// The number of the bytes from an address on.
-pub fn load(row: &[u8], count: usize, image: Image, address: u64, bytes: usize) -> Loaded
-    requires { ⌜ IsRow (now row) count ⌝ }
+// Whether none of so many addresses from one on, whose rank is known, has an entry. The last addresses, which might wrap, are left to the loop.
+fn untouched(row: &[u8], count: usize, address: u64, at: usize, bytes: usize) -> bool
+    requires { ⌜ IsRow (now row) count × (bytes ≤ 8) ⌝ }
+    requires { ⌜ at ≡ rank address (rowOf (now row) count) ⌝ }
+    ensures { λ r. ⌜ (r ≡ true → Untouched (rowOf (now (row .entry)) count) address bytes) ⌝ }
+{
+    if u64::MAX - 8 < address {
+        return false;
+    }
+    if at < count {
+        return address + bytes as u64 <= address_at(row, at);
+    }
+    true
+}
+
+// The low bytes of a number, so many.
+fn low_bytes(number: u64, bytes: usize) -> u64
     requires { ⌜ bytes ≤ 8 ⌝ }
+    ensures { λ r. ⌜ r ≡ num (le bytes number) ⌝ }
+{
+    if bytes < 8 {
+        number % (1u64 << (8 * bytes))
+    } else {
+        number
+    }
+}
+
+// The image's own bytes: a load where the overlay has none.
+fn of_image(image: Image, bytes: usize) -> Loaded
+    requires { ⌜ bytes ≤ 8 ⌝ }
+    ensures { λ r. ⌜ r ≡ loadedAs (loadIn [] (le (image .count) (image .number)) 0 bytes) ⌝ }
+{
+    if image.count < bytes as u64 {
+        return Loaded::Unknown;
+    }
+    Loaded::Known(low_bytes(image.number, bytes))
+}
+
+// The number of the bytes from an address on, whose rank is known, one by one.
+fn load_each(
+    row: &[u8],
+    count: usize,
+    image: Image,
+    address: u64,
+    at: usize,
+    bytes: usize,
+) -> Loaded
+    requires { ⌜ IsRow (now row) count × (bytes ≤ 8) ⌝ }
+    requires { ⌜ at ≡ rank address (rowOf (now row) count) ⌝ }
     ensures { λ r. ⌜ r ≡ loadedAs (loadIn (rowOf (now (row .entry)) count) (le (image .count) (image .number)) address bytes) ⌝ }
 {
-    let mut at = lower(row, count, address);
+    let mut place = at;
     let mut here = address;
     let mut left = image;
     let mut number = 0;
     let mut i = 0;
     while i < bytes {
-        let n = next_byte(row, count, left, here, at);
+        let n = next_byte(row, count, left, here, place);
         match n {
             Next::Read(b, next) => {
                 number = joined(number, i, b);
-                at = next;
+                place = next;
             }
             Next::Missing => {
                 return Loaded::Unknown;
@@ -141,4 +188,17 @@ pub fn load(row: &[u8], count: usize, image: Image, address: u64, bytes: usize) 
         i += 1;
     }
     Loaded::Known(number)
+}
+
+// The number of the bytes from an address on. Most loads are of bytes that the run has not written.
+pub fn load(row: &[u8], count: usize, image: Image, address: u64, bytes: usize) -> Loaded
+    requires { ⌜ IsRow (now row) count ⌝ }
+    requires { ⌜ bytes ≤ 8 ⌝ }
+    ensures { λ r. ⌜ r ≡ loadedAs (loadIn (rowOf (now (row .entry)) count) (le (image .count) (image .number)) address bytes) ⌝ }
+{
+    let at = lower(row, count, address);
+    if untouched(row, count, address, at, bytes) {
+        return of_image(image, bytes);
+    }
+    load_each(row, count, image, address, at, bytes)
 }
