@@ -53,3 +53,8 @@ low-more s at i count rest h =
 
 pub low-done : (s : List ℕ) (i n rest : ℕ) → n ≡ 0 → s ≡ sets s i (le n rest)
 low-done s i n rest e = rw e
+
+-- and by one store of k bytes
+pub low-stored : (s t : List ℕ) (at k count v : ℕ) → count ≡ k → t ≡ putNumber s at k v → t ≡ sets s at (le count v)
+unfolding putNumber
+low-stored s t at k count v e p = p ∙ ap (λ (n : ℕ). sets s at (le n v)) (sym e)

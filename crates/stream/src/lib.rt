@@ -71,8 +71,8 @@ fn put_flagged(part: &mut [u8], at: usize, known: bool, number: u64)
     put64(part, at + 1, number_if(known, number));
 }
 
-// The lowest bytes of a number, so many.
-fn put_low(part: &mut [u8], at: usize, count: usize, number: u64)
+// The lowest bytes of a number, so many, one by one.
+fn put_each(part: &mut [u8], at: usize, count: usize, number: u64)
     requires { ⌜ at + count ≤ length (now part) ⌝ }
     ensures { λ _. ⌜ now (part .exit) ≡ sets (now (part .entry)) at (le count number) ⌝ }
 {
@@ -82,6 +82,20 @@ fn put_low(part: &mut [u8], at: usize, count: usize, number: u64)
         part[at + i] = (rest % 256) as u8;
         rest = rest / 256;
         i += 1;
+    }
+}
+
+// The same, with one store where they are as many as a store takes.
+fn put_low(part: &mut [u8], at: usize, count: usize, number: u64)
+    requires { ⌜ at + count ≤ length (now part) ⌝ }
+    ensures { λ _. ⌜ now (part .exit) ≡ sets (now (part .entry)) at (le count number) ⌝ }
+{
+    match count {
+        1 => put8(part, at, number),
+        2 => put16(part, at, number),
+        4 => put32(part, at, number),
+        8 => put64(part, at, number),
+        _ => put_each(part, at, count, number),
     }
 }
 

@@ -1,47 +1,36 @@
--- `stream::put_low` meets its contract. The loop's invariant: with the bytes that are left stored behind those that are stored already, the part is as it
--- is to be. Assumes nothing.
-use mathlib.Core.Path.{_≡_, refl, _∙_}
-use Prim.Native.Nat.{_+_, _-_, _≤_}
-use native.Mathlib.Nat.{add-zero, sub-zero}
-use native.Mathlib.Omega.{arith}
-use lib.ListN.{length, length-set}
-use lib.Seq.{sets}
-use Rattle.layout.specs.Number.{le}
-use Rattle.stream.proofs.StoreLaws.{low-more, low-done}
+use Rattle.stream.proofs.StoreLaws.{low-stored}
+use borrow.Author.Needs.{needs}
 use Rattle.stream.proofs.put_low.Statement.{statement}
 use Rattle.stream.proofs.put_low.Tie as tie
 
-abbrev Inv-loop : tie.InvT-loop
-Inv-loop part₀ at count number i₀ rest₀ part i rest =
-    (i ≤ count) × (sets part (at + i) (le (count - i) rest) ≡ sets part₀ at (le count number)) × (length part ≡ length part₀)
+returns : tie.Need-returns
+returns c = search (needs, low-stored)
 
-abbrev μ-loop : tie.MeasureT-loop
-μ-loop part₀ at count number i₀ rest₀ part i rest = count - i
+returns-2 : tie.Need-returns-2
+returns-2 c = search (needs, low-stored)
 
-loop-holds : tie.Need-loop-holds Inv-loop μ-loop
-loop-holds c = (omega arith, rw (add-zero, sub-zero), refl)
+returns-3 : tie.Need-returns-3
+returns-3 c = search (needs, low-stored)
 
-loop-again : tie.Need-loop-again Inv-loop μ-loop
-loop-again c =
-    let l = c .before .loop in
-    let a = c .before .before .args in
-    (omega arith, low-more (l .part) (a .at) (l .i) (a .count) (l .rest) (omega arith) ∙ l .inv .1, simp length-set (l .inv .2))
-
-returns : tie.Need-returns Inv-loop μ-loop
-returns c = low-done (c .before .loop .part) (c .before .before .args .at + c .before .loop .i) (c .before .before .args .count - c .before .loop .i) (c .before .loop .rest) (omega arith) ∙ c .before .loop .inv .1
+returns-4 : tie.Need-returns-4
+returns-4 c = search (needs, low-stored)
 
 pub put-low-spec : {M : Type 1} → statement M
 put-low-spec =
     tie.close
     (tie.spec
-    Inv-loop
-    μ-loop
-    loop-holds
-    (λ c. omega arith)
-    (λ c. omega arith)
-    (λ c. omega arith)
-    (λ c. omega arith)
-    (λ c. omega arith)
-    loop-again
-    (λ c. omega arith)
-    returns)
+    (λ c κs. search needs)
+    (λ c κs. search needs)
+    (λ c κs. search needs)
+    (λ c κs. search needs)
+    (λ c κs. search needs)
+    (λ c. search needs)
+    returns
+    (λ c. search needs)
+    returns-2
+    (λ c. search needs)
+    returns-3
+    (λ c. search needs)
+    returns-4
+    (λ c. search needs)
+    (λ c. search needs))
