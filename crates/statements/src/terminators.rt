@@ -18,11 +18,11 @@ use index::blocks::Place;
 use index::blocks::Terminator;
 use value::Val;
 
-// Where the walk is: about to enter a block, or before a statement of it.
+// Where the walk is: about to enter a block, or before a statement of it. (The bool stands first, so that no number of it shares a word with a tag of `Next`.)
 pub struct Spot {
+    pub inside: bool,
     pub block: usize,
     pub statement: usize,
-    pub inside: bool,
 }
 
 pub enum Next {
