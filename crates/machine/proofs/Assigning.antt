@@ -25,8 +25,9 @@ use Rattle.operations.specs.declared.places.Target.{Target}
 use Rattle.operations.specs.Steps.{Gives, GivesShort, Targets, storeThrough}
 use Rattle.operations.specs.Asking.{Writes}
 use Rattle.hosting.proofs.Shapes.{deref-kid}
+use Rattle.operations.proofs.Standing.{evals-as}
 use Rattle.operations.proofs.Going.{goes, halts, acts, told, by-true, beside-after, gives-goes, short-goes}
-use Rattle.machine.proofs.Evaluating.{evals-as, stands-at, gave-on, fell-on, ended-on, short-on, result-is}
+use Rattle.machine.proofs.Evaluating.{stands-at, gave-on, fell-on, ended-on, short-on, result-is}
 use Rattle.machine.proofs.Pointing.{pointed-on, unpointed-on}
 
 pub execute-assign : (E : Env) (t : Term) → is Assign t ≡ true → execute E t ≡ assign E (kid 0 (kids t)) (kid 1 (kids t))

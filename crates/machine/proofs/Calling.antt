@@ -27,8 +27,9 @@ use Rattle.operations.specs.Registers.{shortIn, resultIn, endBy, endIn}
 use Rattle.operations.specs.Going.{Goes, ReadyIn}
 use Rattle.machine.specs.Post.{Evaluates, EvaluatesArgs}
 use Rattle.operations.specs.Taking.{ValuesIn, PutsVal, Calls, afterArgs}
+use Rattle.operations.proofs.Standing.{evals-as}
 use Rattle.operations.proofs.Going.{done-goes, goes, halts, acts, told, ready-after, by-true, by-false}
-use Rattle.machine.proofs.Evaluating.{by, evals-as}
+use Rattle.machine.proofs.Evaluating.{by}
 
 -- ---- values in bytes
 

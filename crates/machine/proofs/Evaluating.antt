@@ -14,11 +14,11 @@ use Rattle.value.specs.Value.{type, knownVal, unknownVal, castTo}
 use Rattle.value.specs.Operators.{binaryOf, operatorOf}
 use Rattle.spelling.specs.Spelling.{typeOf}
 use Rattle.files.specs.Nodes.{kindOf, flagOf, refOf, widthOf, valueOf}
-use Rattle.files.specs.Program.{kindNumbered, Tree, tree, Trees, nodeAt}
+use Rattle.files.specs.Program.{Tree, Trees}
 use Rattle.files.specs.Spells.{next}
 use Rattle.definition.specs.Act.{Act, done, _>>=_, _>>_}
 use Rattle.definition.specs.Term.{eval, evals, kid, nothing}
-use Rattle.definition.specs.Evaluate.{Env, look, looks, evalAs, chosen, readVariable, answered}
+use Rattle.definition.specs.Evaluate.{look, looks, evalAs, chosen, readVariable, answered}
 use Rattle.index.specs.Regions.{RegionsIndexed}
 use Rattle.workspace.specs.Parts.{tables, regionsPart, registersPart}
 use Rattle.workspace.specs.Registers.{valueAt}
@@ -27,33 +27,22 @@ use Rattle.workspace.specs.View.{Fit}
 use Rattle.hosting.specs.declared.How.{How}
 use Rattle.hosting.specs.declared.Short.{Short}
 use Rattle.hosting.specs.Scene.{Given, given, Scene}
-use Rattle.hosting.specs.Stands.{Stands, stands, Shape, a-cast, an-address, a-ternary, a-binary, an-intrinsic, a-leave, a-give, KidsAt, no-kid, a-kid, Fine}
-use Rattle.hosting.specs.Ending.{Ending, ended, short, shortOf, answerEnd}
+use Rattle.hosting.specs.Stands.{Stands, Shape, a-cast, an-address, a-ternary, a-binary, an-intrinsic, a-leave, a-give, KidsAt, no-kid, a-kid, Fine}
+use Rattle.hosting.specs.Ending.{ended, short, shortOf, answerEnd}
 use Rattle.operations.specs.Registers.{countsIn, howIn, shortIn, resultIn, endBy, endIn}
 use Rattle.operations.specs.Going.{ReadyIn, Goes}
-use Rattle.operations.specs.Steps.{Gives, Answers}
+use Rattle.operations.specs.Steps.{Gives, Answers, AtHand}
 use Rattle.operations.specs.Asking.{Addresses}
 use Rattle.machine.specs.Post.{Evaluates, EvaluatesKids}
 use Rattle.hosting.proofs.Shapes.{last-kind}
-use Rattle.operations.proofs.Going.{done-goes, fail-goes, goes, halts, assoc, acts, told, ready-after, beside-after, by-true, by-false, gives-goes}
+use Rattle.operations.proofs.Standing.{actAs, standing}
+use Rattle.operations.proofs.Going.{done-goes, fail-goes, goes, halts, assoc, told, ready-after, beside-after, by-true, by-false, gives-goes}
 
 -- ---- from a shape that a test has shown to whatever tree stands there
 
-abbrev pub actAs : List ℕ → Scene → ℕ → ℕ → Trees → Act Val
-actAs b x k n ts = evalAs (x .env) (kindNumbered k) (nodeAt b n) (looks (x .env) ts)
-
-pub evals-as : (E : Env) (b : List ℕ) (n k : ℕ) (ts : Trees) → kindOf b n ≡ k → eval (look E (tree (nodeAt b n) ts)) ≡ evalAs E (kindNumbered k) (nodeAt b n) (looks E ts)
-unfolding look
-evals-as E b n k ts e = ap (λ (j : ℕ). evalAs E (kindNumbered j) (nodeAt b n) (looks E ts)) e
-
-by′ : {b s r : List ℕ} {n : ℕ} {w₀ o₀ : List ℕ} {e : Ending Val} {w o : List ℕ} {t : Tree} (k : ℕ) → kindOf b n ≡ k
-    → ((ts : Trees) → Shape b k n ts → Goes (given b s r) (λ x. actAs b x k n ts) w₀ o₀ e w o) → Stands b n t → Goes (given b s r) (λ x. eval (look (x .env) t)) w₀ o₀ e w o
-by′ {b} {n = n} k e f (stands {ts = ts} i h) =
-    acts (λ _ x _. evals-as (x .env) b n k ts e) (f ts (subst (λ (j : ℕ). Shape b j n ts) e h))
-
 pub by : {b s r : List ℕ} {n : ℕ} {w₀ o₀ : List ℕ} {q : Bool} {w o : List ℕ} (k : ℕ) → kindOf b n ≡ k
     → ((ts : Trees) → Shape b k n ts → Goes (given b s r) (λ x. actAs b x k n ts) w₀ o₀ (endIn q w) w o) → Evaluates b s r n w₀ o₀ q w o
-by k e f = record { goes = λ t h. by′ k e f h }
+by k e f = record { goes = λ t h. standing k e f h }
 
 -- ---- what an evaluation came to, by the test of what the function gave
 
@@ -98,6 +87,17 @@ module _ {b s r : List ℕ} {n : ℕ} {w₀ o₀ : List ℕ} {q : Bool} {w o : L
 
   pub regions-on : ReadyIn (given b s r) w₀ → not q ≡ false → Fine b n → RegionsIndexed r (regionsPart (tables w)) (howIn w .regions)
   regions-on p e f = ready-on p e f .ready .regions
+
+-- where a value is at hand; and where it is not, what is done then
+module _ {b s r : List ℕ} {n : ℕ} {w : List ℕ} {q : Bool} {w₁ : List ℕ} (a : AtHand b n w q w₁) where
+  pub at-hand-evals : {o : List ℕ} → q ≡ true → Evaluates b s r n w o true w₁ o
+  at-hand-evals {o} e = record { goes = a .yes e (given b s r) o }
+
+  pub else-ready : q ≡ false → ReadyIn (given b s r) w → ReadyIn (given b s r) w₁
+  else-ready e p = subst (ReadyIn (given b s r)) (sym (a .no e)) p
+
+  pub else-evals : {o : List ℕ} {p : Bool} {w′ o′ : List ℕ} → q ≡ false → Evaluates b s r n w₁ o p w′ o′ → Evaluates b s r n w o p w′ o′
+  else-evals {o} {p} {w′} {o′} e ev = subst (λ (z : List ℕ). Evaluates b s r n z o p w′ o′) (a .no e) ev
 
 -- a node told by an equal number
 pub stands-at : {b : List ℕ} {i j : ℕ} {t : Tree} → j ≡ i → Stands b i t → Stands b j t

@@ -33,9 +33,10 @@ use Rattle.machine.specs.Post.{Evaluates}
 use Rattle.hosting.proofs.Shapes.{cast-type, deref-kid}
 use Rattle.operations.proofs.Targeting.{pickIf, in-is, cast-if, target-past}
 use Rattle.operations.proofs.Targeting as targeting
+use Rattle.operations.proofs.Standing.{actAs}
 use Rattle.operations.proofs.Going.{done-goes, goes, halts, acts, told}
 use Rattle.machine.proofs.Ranks.{left}
-use Rattle.machine.proofs.Evaluating.{by, actAs, gave-on, fell-on}
+use Rattle.machine.proofs.Evaluating.{by, gave-on, fell-on}
 
 -- ---- what the tables tell of a Cast
 

@@ -8,7 +8,7 @@ use Rattle.files.specs.Spells.{Inside, next}
 use Rattle.hosting.specs.Stands.{Fine, FineFields}
 use Rattle.hosting.proofs.Shapes.{field-inside}
 
--- ranks at one node: 0 of a kind's own function and of what a store does, 2 evaluating an Assign, 3 evaluate, 4 what evaluates trees side by side
+-- ranks at one node: 0 of a kind's own function and of what a store does, 2 evaluating an Assign, 3 evaluate, 4 operand and what evaluates trees side by side
 unfoldable pub left : List ℕ → ℕ → ℕ → ℕ
 left b n rank = 5 * (length b - n) + rank
 
@@ -26,6 +26,10 @@ module _ (b : List ℕ) (n : ℕ) {t : ℕ} where
   pub assign-falls : left b n 2 ≡ t → left b n 0 < t
   unfolding left
   assign-falls e = omega (arith, e)
+
+  pub operand-falls : left b n 4 ≡ t → left b n 3 < t
+  unfolding left
+  operand-falls e = omega (arith, e)
 
   -- there or at a sibling after it
   pub here-falls : {i : ℕ} → left b n 4 ≡ t → n ≤ i → left b i 3 < t

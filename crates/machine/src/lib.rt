@@ -111,6 +111,26 @@ fn evaluate(
     }
 }
 
+// The expression at node n is evaluated. A value that is at hand is read without a call of the cycle, which would cost several times as much.
+// Only for a Binary and an Assign: in other members the compiler would not inline this, and it would take a frame of its own.
+fn operand(
+    nodes: &[u8],
+    symbols: &[u8],
+    regions: &[u8],
+    ws: &mut [u8],
+    out: &mut [u8],
+    n: usize,
+) -> bool
+    requires { ⌜ ReadyIn (given (now nodes) (now symbols) (now regions)) (now ws) ⌝ }
+    requires { ⌜ Fine (now nodes) n ⌝ }
+    ensures { λ r. ⌜ Evaluates (now (nodes .entry)) (now (symbols .entry)) (now (regions .entry)) n (now (ws .entry)) (now (out .entry)) r (now (ws .exit)) (now (out .exit)) ⌝ }
+{
+    if names::at_hand(nodes, ws, n) {
+        return true;
+    }
+    evaluate(nodes, symbols, regions, ws, out, n)
+}
+
 // A Cast.
 fn cast(
     nodes: &[u8],
@@ -197,11 +217,11 @@ fn binary(
     ensures { λ r. ⌜ Evaluates (now (nodes .entry)) (now (symbols .entry)) (now (regions .entry)) n (now (ws .entry)) (now (out .entry)) r (now (ws .exit)) (now (out .exit)) ⌝ }
 {
     let right = places::next(nodes, n + 1);
-    if !evaluate(nodes, symbols, regions, ws, out, n + 1) {
+    if !operand(nodes, symbols, regions, ws, out, n + 1) {
         return false;
     }
     let l = registers::value(ws, results::RESULT);
-    if !evaluate(nodes, symbols, regions, ws, out, right) {
+    if !operand(nodes, symbols, regions, ws, out, right) {
         return false;
     }
     values::operate(nodes, ws, n, l)
@@ -247,7 +267,7 @@ fn assign(
     if kind == 17 {
         return assign_struct(nodes, symbols, regions, ws, out, left, right);
     }
-    if !evaluate(nodes, symbols, regions, ws, out, right) {
+    if !operand(nodes, symbols, regions, ws, out, right) {
         return false;
     }
     assign_val(nodes, symbols, regions, ws, out, left)

@@ -21,7 +21,7 @@ use Rattle.hosting.specs.Ending.{Ending, ended, short, shortOf}
 use Rattle.hosting.specs.Runs.{Came, Runs}
 use Rattle.hosting.proofs.Running as running
 use Rattle.hosting.proofs.Keeping.{kept-ready}
-use Rattle.operations.specs.Registers.{countsIn, howIn, shortIn, endBy, endIn, toldEnd}
+use Rattle.operations.specs.Registers.{countsIn, howIn, shortIn, resultIn, endBy, endIn, toldEnd}
 use Rattle.operations.specs.Going.{ReadyIn, Goes, Beside}
 use Rattle.operations.specs.Steps.{Gives, GivesShort, Tells}
 
@@ -110,8 +110,11 @@ pub by-false : {A : Type 0} {r : Bool} (a : A) {s u : Short} → r ≡ false →
 by-false {A} {r} a {s} {u} e p = ap (λ (z : Bool). endBy z a s) e ∙ ap (λ (z : Short). short (shortOf z)) p
 
 module _ {g : How → Given} {w o w′ : List ℕ} {r : Bool} where
+  pub given-goes : {v : Val} → Gives w v r w′ → Goes g (λ x. done v) w o (ended (resultIn w′)) w′ o
+  given-goes {v} p = beside-after (p .beside) (told (ap (λ (z : Val). ended z) (p .value)) (done-goes (λ _. v) (λ h x m. refl)))
+
   pub gives-goes : {v : Val} → Gives w v r w′ → Goes g (λ x. done v) w o (endIn r w′) w′ o
-  gives-goes {v} p = beside-after (p .beside) (told (by-true (shortIn w′) (p .yes) (p .value)) (done-goes (λ _. v) (λ h x m. refl)))
+  gives-goes p = told (by-true (shortIn w′) (p .yes) refl) (given-goes p)
 
   pub tells-goes : {d : Did} → Tells w d r w′ → Goes g (λ x. done d) w o (toldEnd r w′) w′ o
   tells-goes {d} p = beside-after (p .beside) (told (by-true (shortIn w′) (p .yes) (p .told)) (done-goes (λ _. d) (λ h x m. refl)))

@@ -1,9 +1,9 @@
 -- What reading, writing and taking the address of a name is, from what the code did for it. Assumes nothing.
 use mathlib.Core.Path.{_≡_, refl, sym, ap, _∙_, subst}
-use mathlib.Core.Bool.{Bool, true, false, not}
+use mathlib.Core.Bool.{Bool, true, false, not, true≢false}
 use mathlib.Core.List.{List, []}
 use mathlib.Core.Option.{Option, none, some}
-use Prim.Native.Nat.{ℕ, zero, suc, _+_, _<_, _≤_}
+use Prim.Native.Nat.{ℕ, zero, suc, _+_, _*_, _<_, _≤_}
 use native.Mathlib.Omega.{arith}
 use native.Mathlib.Nat.{mod-eq-of-lt}
 use lib.ListN.{length}
@@ -11,7 +11,7 @@ use borrow.Author.Tests.{eq-eqb, ne-eqb}
 use Rattle.value.specs.declared.Ty.{Ty}
 use Rattle.value.specs.declared.Val.{Val}
 use Rattle.value.specs.Value.{type, knownVal, unknownVal, castTo}
-use Rattle.files.specs.Nodes.{kindOf, refOf}
+use Rattle.files.specs.Nodes.{kindOf, refOf, widthOf, valueOf}
 use Rattle.files.specs.Program.{Tree, tree, nodeAt, Var}
 use Rattle.files.specs.World.{addressIn, sizeIn}
 use Rattle.memory.specs.Overlay.{find}
@@ -19,7 +19,7 @@ use Rattle.definition.specs.Question.{addressOf, sizeOf, cut}
 use Rattle.definition.specs.Act.{Act, done, fail, ask, act, get, set, noWidth, _>>=_, _>>_}
 use Rattle.definition.specs.Memory.{load, storeVal}
 use Rattle.definition.specs.Term.{Term, node, is, nothing}
-use Rattle.definition.specs.Evaluate.{Env, Did, widthIn, typeOr, look, readVariable, writeVariable, assignVal, addressVal}
+use Rattle.definition.specs.Evaluate.{Env, Did, widthIn, typeOr, look, evalAs, readVariable, writeVariable, assignVal, addressVal}
 use Rattle.index.specs.Texts.{textCount}
 use Rattle.index.specs.Answers.{maybeOf, optionOf}
 use Rattle.index.specs.Regions.{RegionsIndexed}
@@ -48,11 +48,12 @@ use Rattle.hosting.proofs.Shapes.{room, var-name}
 use Rattle.hosting.proofs.Keeping.{get-runs, set-runs}
 use Rattle.operations.specs.declared.names.Told.{Told}
 use Rattle.operations.specs.Registers.{countsIn, howIn, shortIn, toldIn, endIn, toldEnd, unitIn, didWrite}
-use Rattle.operations.specs.Going.{Goes, Works}
-use Rattle.operations.specs.Steps.{Gives, GivesShort, Tells}
+use Rattle.operations.specs.Going.{ReadyIn, Goes, Works}
+use Rattle.operations.specs.Steps.{Gives, GivesShort, Tells, IfSet, AtHand}
 use Rattle.operations.specs.Asking.{Sends, LoadsAt, AsksAddress, AsksSize, bitsIf, symbolVal, writeSymbol, WritesSymbol, Writes, Addresses}
-use Rattle.operations.proofs.Going.{goes, halts, acts, told, by-true, by-false, gives-goes, tells-goes, short-goes}
+use Rattle.operations.proofs.Going.{goes, halts, acts, told, by-true, by-false, gives-goes, given-goes, tells-goes, short-goes}
 use Rattle.operations.proofs.Registers.{counts-same, how-same}
+use Rattle.operations.proofs.Standing.{standing}
 use Rattle.operations.proofs.Asking.{asks-as, asks-goes, sends-asks}
 
 -- ---- answers that may be none
@@ -250,12 +251,37 @@ get-goes k n p r = record { how = r .how; runs = λ h e q. get-runs k n p (r .ru
 slot-here : (w : List ℕ) {x name : ℕ} {slot t : Slot} → name ≡ x → slot ≡ slotAs (find name (variablesIn (framePart w))) → slot ≡ t → t ≡ slotAs (find x (variablesIn (framePart w)))
 slot-here w en es p = sym p ∙ es ∙ ap (λ (y : ℕ). slotAs (find y (variablesIn (framePart w)))) en
 
-module _ {g : How → Given} {w o : List ℕ} {x name : ℕ} {slot : Slot} (en : name ≡ x) (es : slot ≡ slotAs (find name (variablesIn (framePart w)))) where
-  pub variable-set : {r : Bool} {v : Val} {w′ : List ℕ} → slot ≡ Set v → Gives w v r w′ → Goes g (λ s. readVariable (s .env) x) w o (endIn r w′) w′ o
-  variable-set p e = acts (λ h s _. reads-as (s .env) x) (get-goes (λ s. readVal (s .env) x) x (slot-set _ (slot-here w en es p)) (gives-goes e))
+module _ {w : List ℕ} {x name : ℕ} {slot : Slot} (en : name ≡ x) (es : slot ≡ slotAs (find name (variablesIn (framePart w)))) where
+  pub set-read : {r : Bool} {v : Val} {w′ : List ℕ} → slot ≡ Set v → Gives w v r w′ → IfSet x w r w′
+  set-read p e = record {
+    yes = λ _ g o. acts (λ h s _. reads-as (s .env) x) (get-goes (λ s. readVal (s .env) x) x (slot-set _ (slot-here w en es p)) (given-goes e));
+    no = λ q. absurd (true≢false (sym (e .yes) ∙ q));
+  }
 
-  pub variable-unset : {e : Ending Val} {w′ o′ : List ℕ} → slot ≡ Unset → Goes g (λ s. symbolVal (s .env) x) w o e w′ o′ → Goes g (λ s. readVariable (s .env) x) w o e w′ o′
-  variable-unset p r = acts (λ h s _. reads-as (s .env) x) (get-goes (λ s. readVal (s .env) x) x (slot-unset _ (slot-here w en es p)) r)
+  pub unset-read : slot ≡ Unset → IfSet x w false w
+  unset-read p = record { yes = λ q. absurd (true≢false (sym q)); no = λ _. (slot-unset _ (slot-here w en es p), refl) }
+
+-- one that is not set, as a symbol
+module _ {g : How → Given} {x : ℕ} {w : List ℕ} {r : Bool} {w₁ : List ℕ} (i : IfSet x w r w₁) (q : r ≡ false) where
+  pub unset-ready : ReadyIn g w → ReadyIn g w₁
+  unset-ready p = subst (ReadyIn g) (sym (i .no q .1)) p
+
+  pub variable-unset : {o : List ℕ} {e : Ending Val} {w′ o′ : List ℕ} → Goes g (λ s. symbolVal (s .env) x) w₁ o e w′ o′ → Goes g (λ s. readVariable (s .env) x) w o e w′ o′
+  variable-unset {o} {e} {w′} {o′} p = acts (λ h s _. reads-as (s .env) x) (get-goes (λ s. readVal (s .env) x) x (i .no q .0) (subst (λ (z : List ℕ). Goes g (λ s. symbolVal (s .env) x) z o e w′ o′) (i .no q .1) p))
+
+-- ---- a value at hand
+
+module _ {b : List ℕ} {n : ℕ} {w : List ℕ} {r : Bool} {w′ : List ℕ} {kind : ℕ} (p : kind ≡ kindOf b n) where
+  pub constant-at-hand : kind ≡ 0 → Gives w (knownVal (valueOf b n) (type (widthOf b n * 8) true)) r w′ → AtHand b n w r w′
+  unfolding evalAs
+  constant-at-hand k e = record { yes = λ _ g o t h. standing 0 (sym p ∙ k) (λ ts _. given-goes e) h; no = λ q. absurd (true≢false (sym (e .yes) ∙ q)) }
+
+  pub variable-at-hand : kind ≡ 1 → IfSet (refOf b n) w r w′ → AtHand b n w r w′
+  unfolding evalAs
+  variable-at-hand k i = record { yes = λ q g o t h. standing 1 (sym p ∙ k) (λ ts _. i .yes q g o) h; no = λ q. i .no q .1 }
+
+pub not-at-hand : {b : List ℕ} {n : ℕ} {w : List ℕ} → AtHand b n w false w
+not-at-hand = record { yes = λ q. absurd (true≢false (sym q)); no = λ _. refl }
 
 -- ---- an address is taken
 

@@ -10,12 +10,15 @@ use Rattle.value.specs.declared.Val.{Val}
 use Rattle.value.specs.declared.Answer.{Answer}
 use Rattle.value.specs.Value.{castTo}
 use Rattle.files.specs.Nodes.{kindOf, refOf}
-use Rattle.files.specs.Program.{Trees}
+use Rattle.files.specs.Program.{Tree, Trees}
 use Rattle.files.specs.Spells.{size}
+use Rattle.memory.specs.Overlay.{find}
 use Rattle.definition.specs.Act.{Act, done, fail, unknownAddress, Note, noNote, fieldsWritten, valueWritten, Pending, _>>_}
 use Rattle.definition.specs.Memory.{storeVal}
-use Rattle.definition.specs.Evaluate.{Did, did, numberIn, unknownNote, typeOr}
-use Rattle.workspace.specs.Parts.{notePart, tables}
+use Rattle.definition.specs.Term.{eval}
+use Rattle.definition.specs.Evaluate.{Did, did, numberIn, unknownNote, readVariable, look, typeOr}
+use Rattle.workspace.specs.Parts.{notePart, tables, framePart}
+use Rattle.workspace.specs.Variables.{variablesIn}
 use Rattle.workspace.specs.Note.{pendingIn}
 use Rattle.workspace.specs.Types.{pointeeAt}
 use Rattle.workspace.specs.Post.{Aside}
@@ -25,11 +28,12 @@ use Rattle.hosting.specs.declared.Short.{Short}
 use Rattle.hosting.specs.declared.Evaluated.{Evaluated}
 use Rattle.hosting.specs.declared.Executed.{Executed}
 use Rattle.operations.specs.declared.places.Target.{Target}
-use Rattle.hosting.specs.Stands.{FieldsAt}
+use Rattle.hosting.specs.Scene.{Given}
+use Rattle.hosting.specs.Stands.{Stands, FieldsAt}
 use Rattle.hosting.specs.declared.Note as host
 use Rattle.hosting.specs.Ending.{Ending, ended, endOf, doneOf, noteOf, answerEnd}
 use Rattle.operations.specs.Registers.{countsIn, howIn, shortIn, resultIn, toldIn, endBy, endIn, toldEnd}
-use Rattle.operations.specs.Going.{Beside}
+use Rattle.operations.specs.Going.{Goes, Beside}
 
 -- ---- what is put in the registers
 
@@ -112,6 +116,18 @@ pub record CountsFields (b : List ℕ) (n e count : ℕ) : Type 0 where
 -- they were stored from an address on
 pub record Builds (b : List ℕ) (n e address : ℕ) (w : List ℕ) (r : Bool) (w′ : List ℕ) : Type 0 where
   pub tells : (ts : Trees) → FieldsAt b n e ts → Tells w (did (fieldsWritten address (size ts))) r w′
+
+-- ---- values at hand
+
+-- the variable x is read, where it is set; else nothing is done
+pub record IfSet (x : ℕ) (w : List ℕ) (r : Bool) (w′ : List ℕ) : Type 0 where
+  pub yes : r ≡ true → (g : How → Given) (o : List ℕ) → Goes g (λ s. readVariable (s .env) x) w o (ended (resultIn w′)) w′ o
+  pub no : r ≡ false → (none ≡ find x (variablesIn (framePart w))) × (w′ ≡ w)
+
+-- the tree at node n is evaluated; or nothing is done
+pub record AtHand (b : List ℕ) (n : ℕ) (w : List ℕ) (r : Bool) (w′ : List ℕ) : Type 0 where
+  pub yes : r ≡ true → (g : How → Given) (o : List ℕ) (t : Tree) → Stands b n t → Goes g (λ x. eval (look (x .env) t)) w o (ended (resultIn w′)) w′ o
+  pub no : r ≡ false → w′ ≡ w
 
 -- ---- places
 

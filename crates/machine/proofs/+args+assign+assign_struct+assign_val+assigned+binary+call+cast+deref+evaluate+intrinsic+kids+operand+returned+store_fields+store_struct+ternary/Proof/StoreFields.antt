@@ -6,12 +6,12 @@ use Prim.Native.Nat.{ℕ, _-_}
 use native.Mathlib.Omega.{arith}
 use lib.ListN.{length}
 use borrow.Author.Needs.{needs}
-use Rattle.machine.proofs.+args+assign+assign_struct+assign_val+assigned+binary+call+cast+deref+evaluate+intrinsic+kids+returned+store_fields+store_struct+ternary.Lts-store_fields as lts
+use Rattle.machine.proofs.+args+assign+assign_struct+assign_val+assigned+binary+call+cast+deref+evaluate+intrinsic+kids+operand+returned+store_fields+store_struct+ternary.Lts-store_fields as lts
 use Rattle.machine.proofs.store_fields.Reads as store-fields
 use Rattle.operations.proofs.places.next.Reads as next-reads
 use Rattle.machine.proofs.evaluate.Reads as evaluate
 use Rattle.operations.proofs.places.store_field.Reads as store-field-reads
-use Rattle.machine.proofs.+args+assign+assign_struct+assign_val+assigned+binary+call+cast+deref+evaluate+intrinsic+kids+returned+store_fields+store_struct+ternary.Proof.Ties.{evaluate-below, store-fields-at}
+use Rattle.machine.proofs.+args+assign+assign_struct+assign_val+assigned+binary+call+cast+deref+evaluate+intrinsic+kids+operand+returned+store_fields+store_struct+ternary.Proof.Ties.{evaluate-below, store-fields-at}
 use Rattle.hosting.proofs.Shapes.{field-room, field-kid, field-type}
 use Rattle.machine.proofs.Ranks.{field-falls}
 use Rattle.machine.proofs.Evaluating.{ready-on}

@@ -3,12 +3,12 @@ use mathlib.Core.Path.{_≡_}
 use Prim.Native.Nat.{ℕ, _-_}
 use lib.ListN.{length}
 use borrow.Author.Needs.{needs}
-use Rattle.machine.proofs.+args+assign+assign_struct+assign_val+assigned+binary+call+cast+deref+evaluate+intrinsic+kids+returned+store_fields+store_struct+ternary.Lts-kids as lts
+use Rattle.machine.proofs.+args+assign+assign_struct+assign_val+assigned+binary+call+cast+deref+evaluate+intrinsic+kids+operand+returned+store_fields+store_struct+ternary.Lts-kids as lts
 use Rattle.machine.proofs.kids.Reads as kids
 use Rattle.operations.proofs.places.next.Reads as next-reads
 use Rattle.machine.proofs.evaluate.Reads as evaluate
 use Rattle.operations.proofs.values.unknown.Reads as unknown-reads
-use Rattle.machine.proofs.+args+assign+assign_struct+assign_val+assigned+binary+call+cast+deref+evaluate+intrinsic+kids+returned+store_fields+store_struct+ternary.Proof.Ties.{evaluate-below, kids-at}
+use Rattle.machine.proofs.+args+assign+assign_struct+assign_val+assigned+binary+call+cast+deref+evaluate+intrinsic+kids+operand+returned+store_fields+store_struct+ternary.Proof.Ties.{evaluate-below, kids-at}
 use Rattle.hosting.proofs.Shapes.{room, kid-here}
 use Rattle.machine.proofs.Ranks.{here-falls}
 use Rattle.machine.proofs.Siblings.{KidsSoFar, kids-start, kids-less, kids-next, kids-stopped, kids-done}

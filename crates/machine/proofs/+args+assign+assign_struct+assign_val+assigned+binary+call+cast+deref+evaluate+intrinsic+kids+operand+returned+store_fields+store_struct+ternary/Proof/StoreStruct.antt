@@ -3,14 +3,14 @@ use Prim.Native.Nat.{ℕ}
 use native.Mathlib.Omega.{arith}
 use borrow.Author.Needs.{needs}
 use borrow.Author.Tests.{not-true, not-false}
-use Rattle.machine.proofs.+args+assign+assign_struct+assign_val+assigned+binary+call+cast+deref+evaluate+intrinsic+kids+returned+store_fields+store_struct+ternary.Lts-store_struct as lts
+use Rattle.machine.proofs.+args+assign+assign_struct+assign_val+assigned+binary+call+cast+deref+evaluate+intrinsic+kids+operand+returned+store_fields+store_struct+ternary.Lts-store_struct as lts
 use Rattle.machine.proofs.store_struct.Reads as store-struct
 use Rattle.workspace.proofs.registers.value.Reads as value-reads
 use Rattle.operations.proofs.results.ends.Reads as ends-reads
 use Rattle.operations.proofs.places.next.Reads as next-reads
 use Rattle.machine.proofs.store_fields.Reads as store-fields
 use Rattle.operations.proofs.places.built.Reads as built-reads
-use Rattle.machine.proofs.+args+assign+assign_struct+assign_val+assigned+binary+call+cast+deref+evaluate+intrinsic+kids+returned+store_fields+store_struct+ternary.Proof.Ties.{store-fields-below, store-struct-at}
+use Rattle.machine.proofs.+args+assign+assign_struct+assign_val+assigned+binary+call+cast+deref+evaluate+intrinsic+kids+operand+returned+store_fields+store_struct+ternary.Proof.Ties.{store-fields-below, store-struct-at}
 use Rattle.hosting.proofs.Shapes.{room, struct-fields}
 use Rattle.machine.proofs.Ranks.{first-falls}
 use Rattle.machine.proofs.Room.{room-in, room-after}

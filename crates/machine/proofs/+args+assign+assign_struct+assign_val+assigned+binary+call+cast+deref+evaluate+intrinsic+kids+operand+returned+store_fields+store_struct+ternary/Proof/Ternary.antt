@@ -3,13 +3,13 @@ use mathlib.Core.Path.{_∙_}
 use Prim.Native.Nat.{ℕ}
 use native.Mathlib.Omega.{arith}
 use borrow.Author.Needs.{needs}
-use Rattle.machine.proofs.+args+assign+assign_struct+assign_val+assigned+binary+call+cast+deref+evaluate+intrinsic+kids+returned+store_fields+store_struct+ternary.Lts-ternary as lts
+use Rattle.machine.proofs.+args+assign+assign_struct+assign_val+assigned+binary+call+cast+deref+evaluate+intrinsic+kids+operand+returned+store_fields+store_struct+ternary.Lts-ternary as lts
 use Rattle.machine.proofs.ternary.Reads as ternary
 use Rattle.operations.proofs.places.next.Reads as next-reads
 use Rattle.machine.proofs.evaluate.Reads as evaluate
 use Rattle.workspace.proofs.registers.value.Reads as value-reads
 use Rattle.operations.proofs.values.choose.Reads as choose-reads
-use Rattle.machine.proofs.+args+assign+assign_struct+assign_val+assigned+binary+call+cast+deref+evaluate+intrinsic+kids+returned+store_fields+store_struct+ternary.Proof.Ties.{evaluate-below, ternary-at}
+use Rattle.machine.proofs.+args+assign+assign_struct+assign_val+assigned+binary+call+cast+deref+evaluate+intrinsic+kids+operand+returned+store_fields+store_struct+ternary.Proof.Ties.{evaluate-below, ternary-at}
 use Rattle.hosting.proofs.Shapes.{room, ternary-first, ternary-second, ternary-third}
 use Rattle.machine.proofs.Ranks.{first-falls, second-falls, third-falls}
 use Rattle.machine.proofs.Evaluating.{ready-on, ternary-evals, ternary-short, ternary-short-second, ternary-short-third}

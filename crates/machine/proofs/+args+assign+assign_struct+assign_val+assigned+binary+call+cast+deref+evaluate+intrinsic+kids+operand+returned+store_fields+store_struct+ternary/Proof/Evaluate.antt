@@ -2,7 +2,7 @@
 use mathlib.Core.Path.{refl}
 use Prim.Native.Nat.{ℕ}
 use borrow.Author.Needs.{needs}
-use Rattle.machine.proofs.+args+assign+assign_struct+assign_val+assigned+binary+call+cast+deref+evaluate+intrinsic+kids+returned+store_fields+store_struct+ternary.Lts-evaluate as lts
+use Rattle.machine.proofs.+args+assign+assign_struct+assign_val+assigned+binary+call+cast+deref+evaluate+intrinsic+kids+operand+returned+store_fields+store_struct+ternary.Lts-evaluate as lts
 use Rattle.machine.proofs.evaluate.Reads as evaluate
 use Rattle.files.proofs.nodes.kind.Reads as kind-reads
 use Rattle.operations.proofs.values.constant.Reads as constant-reads
@@ -20,7 +20,7 @@ use Rattle.machine.proofs.assigned.Reads as assigned
 use Rattle.machine.proofs.call.Reads as call
 use Rattle.machine.proofs.intrinsic.Reads as intrinsic
 use Rattle.machine.proofs.returned.Reads as returned
-use Rattle.machine.proofs.+args+assign+assign_struct+assign_val+assigned+binary+call+cast+deref+evaluate+intrinsic+kids+returned+store_fields+store_struct+ternary.Proof.Ties.{assigned-below, binary-below, call-below, cast-below, deref-below, evaluate-at, intrinsic-below, returned-below, ternary-below}
+use Rattle.machine.proofs.+args+assign+assign_struct+assign_val+assigned+binary+call+cast+deref+evaluate+intrinsic+kids+operand+returned+store_fields+store_struct+ternary.Proof.Ties.{assigned-below, binary-below, call-below, cast-below, deref-below, evaluate-at, intrinsic-below, returned-below, ternary-below}
 use Rattle.hosting.proofs.Shapes.{room, same-kind, address-kid, constant-width}
 use Rattle.machine.proofs.Ranks.{kind-falls, assigned-falls}
 use Rattle.machine.proofs.Evaluating.{alone, constant-evals, register-evals, string-evals, function-evals, true-evals, false-evals, decided-evals, struct-evals, last-evals, var-evals, address-evals}

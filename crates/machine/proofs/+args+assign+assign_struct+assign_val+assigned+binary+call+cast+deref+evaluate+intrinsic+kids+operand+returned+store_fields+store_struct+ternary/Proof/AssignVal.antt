@@ -2,7 +2,7 @@
 use Prim.Native.Nat.{ℕ}
 use native.Mathlib.Omega.{arith}
 use borrow.Author.Needs.{needs}
-use Rattle.machine.proofs.+args+assign+assign_struct+assign_val+assigned+binary+call+cast+deref+evaluate+intrinsic+kids+returned+store_fields+store_struct+ternary.Lts-assign_val as lts
+use Rattle.machine.proofs.+args+assign+assign_struct+assign_val+assigned+binary+call+cast+deref+evaluate+intrinsic+kids+operand+returned+store_fields+store_struct+ternary.Lts-assign_val as lts
 use Rattle.machine.proofs.assign_val.Reads as assign-val
 use Rattle.workspace.proofs.registers.value.Reads as value-reads
 use Rattle.files.proofs.nodes.kind.Reads as kind-reads
@@ -11,7 +11,7 @@ use Rattle.operations.proofs.results.ends.Reads as ends-reads
 use Rattle.operations.proofs.places.target_of.Reads as target-of-reads
 use Rattle.machine.proofs.evaluate.Reads as evaluate
 use Rattle.operations.proofs.places.store.Reads as store-reads
-use Rattle.machine.proofs.+args+assign+assign_struct+assign_val+assigned+binary+call+cast+deref+evaluate+intrinsic+kids+returned+store_fields+store_struct+ternary.Proof.Ties.{assign-val-at, evaluate-below}
+use Rattle.machine.proofs.+args+assign+assign_struct+assign_val+assigned+binary+call+cast+deref+evaluate+intrinsic+kids+operand+returned+store_fields+store_struct+ternary.Proof.Ties.{assign-val-at, evaluate-below}
 use Rattle.hosting.proofs.Shapes.{room, same-kind, deref-kid, cast-type}
 use Rattle.machine.proofs.Evaluating.{ready-on}
 use Rattle.operations.proofs.Targeting.{target-fine}

@@ -3,12 +3,12 @@ use Prim.Native.Nat.{ℕ}
 use native.Mathlib.Omega.{arith}
 use borrow.Author.Needs.{needs}
 use borrow.Author.Tests.{not-true, not-false}
-use Rattle.machine.proofs.+args+assign+assign_struct+assign_val+assigned+binary+call+cast+deref+evaluate+intrinsic+kids+returned+store_fields+store_struct+ternary.Lts-call as lts
+use Rattle.machine.proofs.+args+assign+assign_struct+assign_val+assigned+binary+call+cast+deref+evaluate+intrinsic+kids+operand+returned+store_fields+store_struct+ternary.Lts-call as lts
 use Rattle.machine.proofs.call.Reads as call
 use Rattle.operations.proofs.places.next.Reads as next-reads
 use Rattle.machine.proofs.args.Reads as args
 use Rattle.operations.proofs.calls.called.Reads as called-reads
-use Rattle.machine.proofs.+args+assign+assign_struct+assign_val+assigned+binary+call+cast+deref+evaluate+intrinsic+kids+returned+store_fields+store_struct+ternary.Proof.Ties.{args-below, call-at}
+use Rattle.machine.proofs.+args+assign+assign_struct+assign_val+assigned+binary+call+cast+deref+evaluate+intrinsic+kids+operand+returned+store_fields+store_struct+ternary.Proof.Ties.{args-below, call-at}
 use Rattle.hosting.proofs.Shapes.{room, call-callee, call-args}
 use Rattle.machine.proofs.Ranks.{second-falls}
 use Rattle.machine.proofs.Calling.{args-ready, call-evals, call-short}

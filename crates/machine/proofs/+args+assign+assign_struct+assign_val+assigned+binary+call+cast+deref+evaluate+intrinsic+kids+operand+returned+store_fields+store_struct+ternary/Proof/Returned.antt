@@ -1,12 +1,12 @@
 -- The member `returned` of the cycle of calls. Assumes nothing.
 use Prim.Native.Nat.{ℕ}
 use borrow.Author.Needs.{needs}
-use Rattle.machine.proofs.+args+assign+assign_struct+assign_val+assigned+binary+call+cast+deref+evaluate+intrinsic+kids+returned+store_fields+store_struct+ternary.Lts-returned as lts
+use Rattle.machine.proofs.+args+assign+assign_struct+assign_val+assigned+binary+call+cast+deref+evaluate+intrinsic+kids+operand+returned+store_fields+store_struct+ternary.Lts-returned as lts
 use Rattle.machine.proofs.returned.Reads as returned
 use Rattle.operations.proofs.places.next.Reads as next-reads
 use Rattle.operations.proofs.values.unknown.Reads as unknown-reads
 use Rattle.machine.proofs.evaluate.Reads as evaluate
-use Rattle.machine.proofs.+args+assign+assign_struct+assign_val+assigned+binary+call+cast+deref+evaluate+intrinsic+kids+returned+store_fields+store_struct+ternary.Proof.Ties.{evaluate-below, returned-at}
+use Rattle.machine.proofs.+args+assign+assign_struct+assign_val+assigned+binary+call+cast+deref+evaluate+intrinsic+kids+operand+returned+store_fields+store_struct+ternary.Proof.Ties.{evaluate-below, returned-at}
 use Rattle.hosting.proofs.Shapes.{room, returned-kid}
 use Rattle.machine.proofs.Ranks.{first-falls}
 use Rattle.machine.proofs.Evaluating.{returned-nothing, returned-evals}

@@ -27,6 +27,8 @@ use Rattle.machine.proofs.intrinsic.Reads as intrinsic
 use Rattle.machine.proofs.intrinsic.Kinds as intrinsic-kinds
 use Rattle.machine.proofs.kids.Reads as kids
 use Rattle.machine.proofs.kids.Kinds as kids-kinds
+use Rattle.machine.proofs.operand.Reads as operand
+use Rattle.machine.proofs.operand.Kinds as operand-kinds
 use Rattle.machine.proofs.returned.Reads as returned
 use Rattle.machine.proofs.returned.Kinds as returned-kinds
 use Rattle.machine.proofs.store_fields.Reads as store-fields
@@ -71,6 +73,9 @@ abbrev pub μ-intrinsic : Measures 5 intrinsic-kinds.ps ℕ
 
 abbrev pub μ-kids : Measures 5 kids-kinds.ps ℕ
 μ-kids κs a = left (a .0 .now) (a .1 .1 .1 .1 .1 .0) 4
+
+abbrev pub μ-operand : Measures 5 operand-kinds.ps ℕ
+μ-operand κs a = left (a .0 .now) (a .1 .1 .1 .1 .1 .0) 4
 
 abbrev pub μ-returned : Measures 5 returned-kinds.ps ℕ
 μ-returned κs a = left (a .0 .now) (a .1 .1 .1 .1 .1 .0) 0
@@ -155,6 +160,12 @@ kids-at t = and 5 kids-kinds.ps (is 5 kids-kinds.ps μ-kids t) kids.Pre
 
 abbrev pub kids-below : ℕ → In 5 kids-kinds.ps
 kids-below t = and 5 kids-kinds.ps (falls 5 kids-kinds.ps _<_ μ-kids t) kids.Pre
+
+abbrev pub operand-at : ℕ → In 5 operand-kinds.ps
+operand-at t = and 5 operand-kinds.ps (is 5 operand-kinds.ps μ-operand t) operand.Pre
+
+abbrev pub operand-below : ℕ → In 5 operand-kinds.ps
+operand-below t = and 5 operand-kinds.ps (falls 5 operand-kinds.ps _<_ μ-operand t) operand.Pre
 
 abbrev pub returned-at : ℕ → In 5 returned-kinds.ps
 returned-at t = and 5 returned-kinds.ps (is 5 returned-kinds.ps μ-returned t) returned.Pre

@@ -2,14 +2,14 @@
 use Prim.Native.Nat.{ℕ}
 use native.Mathlib.Omega.{arith}
 use borrow.Author.Needs.{needs}
-use Rattle.machine.proofs.+args+assign+assign_struct+assign_val+assigned+binary+call+cast+deref+evaluate+intrinsic+kids+returned+store_fields+store_struct+ternary.Lts-assign_struct as lts
+use Rattle.machine.proofs.+args+assign+assign_struct+assign_val+assigned+binary+call+cast+deref+evaluate+intrinsic+kids+operand+returned+store_fields+store_struct+ternary.Lts-assign_struct as lts
 use Rattle.machine.proofs.assign_struct.Reads as assign-struct
 use Rattle.files.proofs.nodes.kind.Reads as kind-reads
 use Rattle.operations.proofs.results.ends.Reads as ends-reads
 use Rattle.operations.proofs.places.base.Reads as base-reads
 use Rattle.machine.proofs.evaluate.Reads as evaluate
 use Rattle.machine.proofs.store_struct.Reads as store-struct
-use Rattle.machine.proofs.+args+assign+assign_struct+assign_val+assigned+binary+call+cast+deref+evaluate+intrinsic+kids+returned+store_fields+store_struct+ternary.Proof.Ties.{assign-struct-at, evaluate-below, store-struct-below}
+use Rattle.machine.proofs.+args+assign+assign_struct+assign_val+assigned+binary+call+cast+deref+evaluate+intrinsic+kids+operand+returned+store_fields+store_struct+ternary.Proof.Ties.{assign-struct-at, evaluate-below, store-struct-below}
 use Rattle.hosting.proofs.Shapes.{room, same-kind, deref-kid}
 use Rattle.machine.proofs.Ranks.{right-falls}
 use Rattle.machine.proofs.Evaluating.{ready-on}

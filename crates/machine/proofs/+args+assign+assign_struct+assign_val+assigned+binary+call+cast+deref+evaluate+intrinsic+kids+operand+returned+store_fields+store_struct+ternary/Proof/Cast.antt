@@ -1,11 +1,11 @@
 -- The member `cast` of the cycle of calls. Assumes nothing.
 use Prim.Native.Nat.{ℕ}
 use borrow.Author.Needs.{needs}
-use Rattle.machine.proofs.+args+assign+assign_struct+assign_val+assigned+binary+call+cast+deref+evaluate+intrinsic+kids+returned+store_fields+store_struct+ternary.Lts-cast as lts
+use Rattle.machine.proofs.+args+assign+assign_struct+assign_val+assigned+binary+call+cast+deref+evaluate+intrinsic+kids+operand+returned+store_fields+store_struct+ternary.Lts-cast as lts
 use Rattle.machine.proofs.cast.Reads as cast
 use Rattle.machine.proofs.evaluate.Reads as evaluate
 use Rattle.operations.proofs.values.cast.Reads as cast-reads
-use Rattle.machine.proofs.+args+assign+assign_struct+assign_val+assigned+binary+call+cast+deref+evaluate+intrinsic+kids+returned+store_fields+store_struct+ternary.Proof.Ties.{cast-at, evaluate-below}
+use Rattle.machine.proofs.+args+assign+assign_struct+assign_val+assigned+binary+call+cast+deref+evaluate+intrinsic+kids+operand+returned+store_fields+store_struct+ternary.Proof.Ties.{cast-at, evaluate-below}
 use Rattle.hosting.proofs.Shapes.{room, cast-kid, cast-type}
 use Rattle.machine.proofs.Ranks.{first-falls}
 use Rattle.machine.proofs.Evaluating.{cast-evals, cast-short}

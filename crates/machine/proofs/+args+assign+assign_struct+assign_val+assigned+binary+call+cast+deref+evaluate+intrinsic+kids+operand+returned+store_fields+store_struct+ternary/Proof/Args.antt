@@ -5,13 +5,13 @@ use native.Mathlib.Omega.{arith}
 use lib.ListN.{length}
 use borrow.Author.Needs.{needs}
 use borrow.Author.Tests.{not-true, not-false}
-use Rattle.machine.proofs.+args+assign+assign_struct+assign_val+assigned+binary+call+cast+deref+evaluate+intrinsic+kids+returned+store_fields+store_struct+ternary.Lts-args as lts
+use Rattle.machine.proofs.+args+assign+assign_struct+assign_val+assigned+binary+call+cast+deref+evaluate+intrinsic+kids+operand+returned+store_fields+store_struct+ternary.Lts-args as lts
 use Rattle.machine.proofs.args.Reads as args
 use Rattle.operations.proofs.places.next.Reads as next-reads
 use Rattle.machine.proofs.evaluate.Reads as evaluate
 use Rattle.workspace.proofs.registers.value.Reads as value-reads
 use Rattle.operations.proofs.calls.put_val.Reads as put-val-reads
-use Rattle.machine.proofs.+args+assign+assign_struct+assign_val+assigned+binary+call+cast+deref+evaluate+intrinsic+kids+returned+store_fields+store_struct+ternary.Proof.Ties.{args-at, evaluate-below}
+use Rattle.machine.proofs.+args+assign+assign_struct+assign_val+assigned+binary+call+cast+deref+evaluate+intrinsic+kids+operand+returned+store_fields+store_struct+ternary.Proof.Ties.{args-at, evaluate-below}
 use Rattle.hosting.proofs.Shapes.{room, arg-here}
 use Rattle.machine.proofs.Ranks.{here-falls}
 use Rattle.machine.proofs.SiblingArgs.{ArgsSoFar, args-start, args-less, args-room, arg-ready, args-next, args-stopped, args-done}

@@ -1,11 +1,11 @@
 -- The member `assigned` of the cycle of calls. Assumes nothing.
 use Prim.Native.Nat.{ℕ}
 use borrow.Author.Needs.{needs}
-use Rattle.machine.proofs.+args+assign+assign_struct+assign_val+assigned+binary+call+cast+deref+evaluate+intrinsic+kids+returned+store_fields+store_struct+ternary.Lts-assigned as lts
+use Rattle.machine.proofs.+args+assign+assign_struct+assign_val+assigned+binary+call+cast+deref+evaluate+intrinsic+kids+operand+returned+store_fields+store_struct+ternary.Lts-assigned as lts
 use Rattle.machine.proofs.assigned.Reads as assigned
 use Rattle.machine.proofs.assign.Reads as assign
 use Rattle.operations.proofs.values.value_of.Reads as value-of-reads
-use Rattle.machine.proofs.+args+assign+assign_struct+assign_val+assigned+binary+call+cast+deref+evaluate+intrinsic+kids+returned+store_fields+store_struct+ternary.Proof.Ties.{assign-below, assigned-at}
+use Rattle.machine.proofs.+args+assign+assign_struct+assign_val+assigned+binary+call+cast+deref+evaluate+intrinsic+kids+operand+returned+store_fields+store_struct+ternary.Proof.Ties.{assign-below, assigned-at}
 use Rattle.machine.proofs.Ranks.{assign-falls}
 use Rattle.machine.proofs.Room.{room-after}
 use Rattle.machine.proofs.Assigning.{assigned-evals, assigned-short, assigned-tells, assigned-fails}

@@ -1,12 +1,12 @@
 -- The member `deref` of the cycle of calls. Assumes nothing.
 use Prim.Native.Nat.{ℕ}
 use borrow.Author.Needs.{needs}
-use Rattle.machine.proofs.+args+assign+assign_struct+assign_val+assigned+binary+call+cast+deref+evaluate+intrinsic+kids+returned+store_fields+store_struct+ternary.Lts-deref as lts
+use Rattle.machine.proofs.+args+assign+assign_struct+assign_val+assigned+binary+call+cast+deref+evaluate+intrinsic+kids+operand+returned+store_fields+store_struct+ternary.Lts-deref as lts
 use Rattle.machine.proofs.deref.Reads as deref
 use Rattle.operations.proofs.places.target_of.Reads as target-of-reads
 use Rattle.machine.proofs.evaluate.Reads as evaluate
 use Rattle.operations.proofs.places.load.Reads as load-reads
-use Rattle.machine.proofs.+args+assign+assign_struct+assign_val+assigned+binary+call+cast+deref+evaluate+intrinsic+kids+returned+store_fields+store_struct+ternary.Proof.Ties.{deref-at, evaluate-below}
+use Rattle.machine.proofs.+args+assign+assign_struct+assign_val+assigned+binary+call+cast+deref+evaluate+intrinsic+kids+operand+returned+store_fields+store_struct+ternary.Proof.Ties.{deref-at, evaluate-below}
 use Rattle.hosting.proofs.Shapes.{room, deref-kid, cast-type}
 use Rattle.machine.proofs.Evaluating.{fit-on, regions-on}
 use Rattle.operations.proofs.Targeting.{target-fine}
