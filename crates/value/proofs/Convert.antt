@@ -2,8 +2,8 @@
 -- Assumes nothing.
 use mathlib.Core.Path.{_≡_, refl, sym, ap, _∙_}
 use mathlib.Core.Bool.{Bool, true, false, cond, not, Bool·beq, true≢false, false≢true}
-use Prim.Native.Nat.{ℕ, suc, _+_, _-_, _*_, _/_, _%_, _^_, _<_}
-use native.Mathlib.Nat.{mod-eq-of-lt, lt-of-le-of-lt, div-le-self}
+use Prim.Native.Nat.{ℕ, suc, _+_, _-_, _*_, _/_, _%_, _^_, _<_, _≤_}
+use native.Mathlib.Nat.{zero-mod, mod-eq-of-lt, lt-of-le-of-lt, div-le-self}
 use native.Mathlib.Omega.{arith}
 use lib.Bits.{and-le-r}
 use lib.IntN.{ℤ, pos, negsuc, natAbs, _+ℤ_, _-ℤ_, _*ℤ_}
@@ -13,9 +13,10 @@ use Rattle.value.specs.declared.Ty.{Ty}
 use Rattle.value.specs.declared.Val.{Val}
 use Rattle.value.specs.declared.Operands.{Operands}
 use Rattle.value.specs.Width.{width, lowBits, residue, isNegative, sized}
-use Rattle.value.specs.Value.{typeOfVal, readAs, meaning, knownVal, convert}
+use Rattle.value.specs.Value.{typeOfVal, readAs, meaning, knownVal, unknownVal, convert, castTo}
 use Rattle.value.specs.Operators.{resultOf, arithmetic, countOf}
-use Rattle.value.proofs.Residue.{residue-low, low-low, residue-add, residue-sub, residue-mul}
+use Rattle.value.proofs.Pick.{pick-true, pick-false}
+use Rattle.value.proofs.Residue.{residue-of, residue-fewer, residue-low, low-low, residue-add, residue-sub, residue-mul}
 use Rattle.value.proofs.Reading.{agree-read, bits-lt, read-minus, read-plus}
 use Rattle.value.proofs.Word.{width-le}
 
@@ -25,6 +26,37 @@ known-is n z t h i = record { known = true; signed = t .signed; bits = t .bits; 
 -- a word converts as the integer that it stands for
 pub word-is : (n : ℕ) (z : ℤ) (t : Ty) → n ≡ residue 64 z → knownVal n t ≡ convert z t
 word-is n z t h = known-is n z t (ap (λ (k : ℕ). lowBits k (t .bits)) h ∙ residue-low (t .bits) z)
+
+-- in a type that is no wider, a value's number has the low bits of the integer that it stands for
+narrower : (v : Val) {bits : ℕ} → bits ≤ v .bits → lowBits (v .number) bits ≡ residue (width bits) (meaning v)
+narrower v {bits} h =
+    let fewer : width bits ≤ width (v .bits) = omega arith in
+    sym (residue-fewer fewer (pos (v .number)))
+    ∙ ap (λ (n : ℕ). lowBits n bits) (sym (residue-of (width (v .bits)) (meaning v) (v .number) (agree-read (typeOfVal v) (v .number))))
+    ∙ residue-fewer fewer (meaning v)
+
+-- ---- the number of a value converted to a type
+
+module _ (v : Val) (t : Ty) where
+  known-number : v .known ≡ true → residue (width (t .bits)) (meaning v) ≡ castTo v t .number
+  known-number h = ap (λ (c : Val). c .number) (pick-true (unknownVal t) h)
+
+  pub cast-narrower : v .known ≡ true → t .bits ≤ v .bits → lowBits (v .number) (t .bits) ≡ castTo v t .number
+  cast-narrower h l = narrower v l ∙ known-number h
+
+  pub cast-wider : {n : ℕ} → v .known ≡ true → n ≡ residue 64 (meaning v) → lowBits n (t .bits) ≡ castTo v t .number
+  cast-wider {n} h e = ap (λ (c : Val). c .number) (word-is n (meaning v) t e) ∙ known-number h
+
+  pub cast-unknown : v .known ≡ false → lowBits 0 (t .bits) ≡ castTo v t .number
+  cast-unknown h = zero-mod (2 ^ width (t .bits)) ∙ ap (λ (c : Val). c .number) (pick-false (convert (meaning v) t) h)
+
+  -- the value converted to a type, of which the number is known
+  pub cast-is : {n : ℕ} → n ≡ castTo v t .number → record { known = v .known; signed = t .signed; bits = t .bits; number = n } ≡ castTo v t
+  cast-is h = (λ i. record { known = v .known; signed = t .signed; bits = t .bits; number = h i }) ∙ same (v .known)
+    where
+      same : (b : Bool) → record { known = b; signed = t .signed; bits = t .bits; number = cond b (convert (meaning v) t) (unknownVal t) .number } ≡ cond b (convert (meaning v) t) (unknownVal t)
+      same true = refl
+      same false = refl
 
 pub byte-of : (b : Bool) → boolByte b ≡ cond b 1 0
 byte-of true = refl

@@ -1,8 +1,8 @@
 -- Laws of `residue`: converting to w bits respects sums, differences and products, and may be done in two steps.
 -- Assumes nothing.
 use mathlib.Core.Path.{_≡_, refl, sym, ap, _∙_}
-use Prim.Native.Nat.{ℕ, suc, _+_, _-_, _*_, _/_, _%_, _^_, _<_}
-use native.Mathlib.Nat.{mul-assoc, mod-eq-of-lt, mod-lt, div-add-mod', mul-mod-left, add-comm, mod-self, add-mul-mod-self-right}
+use Prim.Native.Nat.{ℕ, suc, _+_, _-_, _*_, _/_, _%_, _^_, _<_, _≤_}
+use native.Mathlib.Nat.{mul-assoc, mod-eq-of-lt, mod-lt, div-add-mod', mul-mod-left, add-comm, mod-self, add-mul-mod-self-right, min-le-right}
 use native.Mathlib.Omega.{arith}
 use lib.Pow.{pow-pos, pow-add, mod-mod-pow}
 use lib.IntN.{ℤ, pos, negsuc, negℤ, _+ℤ_, _-ℤ_, _*ℤ_}
@@ -67,7 +67,7 @@ residue-sub w z y a b r p q h =
 
 -- ---- a conversion by way of more bits
 
-pub residue-twice : (j w : ℕ) (z : ℤ) → residue (j + w) z % 2 ^ w ≡ residue w z
+residue-twice : (j w : ℕ) (z : ℤ) → residue (j + w) z % 2 ^ w ≡ residue w z
 residue-twice j w (pos n) = mod-mod-pow n j w
 residue-twice j w (negsuc n) =
     let l : n % 2 ^ (j + w) < 2 ^ (j + w) = mod-lt n (pow-pos (j + w)) in
@@ -80,12 +80,11 @@ residue-twice j w (negsuc n) =
     ∙ ap (λ (x : ℕ). x % 2 ^ w) (sym (M.times (2 ^ w) (2 ^ w - 1) (one-less w) (suc n))))
     ∙ sym (residue-lift w (negsuc n))
 
-rest : (bits : ℕ) → (64 - width bits) + width bits ≡ 64
-rest bits = omega arith
+pub residue-fewer : {w v : ℕ} → w ≤ v → (z : ℤ) → residue v z % 2 ^ w ≡ residue w z
+residue-fewer {w} {v} h z = ap (λ (k : ℕ). residue k z % 2 ^ w) {x = v} {y = v - w + w} (omega arith) ∙ residue-twice (v - w) w z
 
 pub residue-low : (bits : ℕ) (z : ℤ) → lowBits (residue 64 z) bits ≡ residue (width bits) z
-residue-low bits z =
-    ap (λ (k : ℕ). lowBits (residue k z) bits) (sym (rest bits)) ∙ residue-twice (64 - width bits) (width bits) z
+residue-low bits z = residue-fewer (min-le-right bits 64) z
 
 pub low-low : (bits n : ℕ) → lowBits (n % 2 ^ 64) bits ≡ lowBits n bits
 low-low bits n = residue-low bits (pos n)

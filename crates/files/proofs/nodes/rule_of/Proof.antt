@@ -1,21 +1,11 @@
 -- `rule_of` meets its contract: each arm is the definition's rule of its kind, and what the last arm gets is no kind. Assumes nothing.
-use mathlib.Core.Path.{_≡_, sym, ap}
-use Prim.Native.Nat.{ℕ, zero, suc, _≤_}
-use native.Mathlib.Omega.{arith}
+use mathlib.Core.Path.{sym, ap}
 use lib.ListN.{List·getD-eq-default}
+use Rattle.layout.proofs.ArmLaws.{none-below}
 use Rattle.files.specs.Nodes.{rules, noRule, ruleOf}
 use Rattle.files.specs.Rules.{row}
 use Rattle.files.proofs.nodes.rule_of.Statement.{statement}
 use Rattle.files.proofs.nodes.rule_of.Tie as tie
-
--- k is none of the numbers below n, as the last arm of a `match` is told
-abbrev NoneBelow : ℕ → ℕ → Type 0
-NoneBelow zero k = Unit {0}
-NoneBelow (suc n) k = NoneBelow n k × (k ≡ n → ⊥)
-
-past-last : (n k : ℕ) → NoneBelow n k → n ≤ k
-past-last zero k h = omega arith
-past-last (suc n) k h = let l = past-last n k (h .0) in let d = h .1 in omega (arith, l, d)
 
 pub rule-of-spec : {M : Type 1} → statement M
 unfolding ruleOf
@@ -42,4 +32,4 @@ rule-of-spec =
     (λ c. rw (c .match .keys18))
     (λ c. rw (c .match .keys19))
     (λ c. rw (c .match .keys20))
-    (λ c. sym (ap row (List·getD-eq-default rules noRule {n = c .before .args .kind} (past-last 20 (c .before .args .kind) (c .match .rest))))))
+    (λ c. sym (ap row (List·getD-eq-default rules noRule {n = c .before .args .kind} (none-below 20 (c .before .args .kind) (c .match .rest))))))
