@@ -176,13 +176,6 @@ module _ {C : Type 0} where
 
   -- ---- storing from an address on
 
-  -- only the addresses modulo 2 ^ 64 count
-  pub stores-wrap : (cs : List C) (a b : ℕ) (m : Overlay C) → a % 2 ^ 64 ≡ b % 2 ^ 64 → stores a cs m ≡ stores b cs m
-  unfolding stores
-  stores-wrap [] a b m h = refl
-  stores-wrap (c ∷ cs) a b m h =
-      ap (λ (x : ℕ). stores (suc a) cs (store x c m)) h ∙ stores-wrap cs (suc a) (suc b) (store (b % 2 ^ 64) c m) (omega arith)
-
   pub ascending-stores : (cs : List C) (a : ℕ) (m : Overlay C) → Ascending m → Ascending (stores a cs m)
   unfolding stores
   ascending-stores [] a m s = s

@@ -19,9 +19,6 @@ use Rattle.value.proofs.Residue.{one-less, Agree}
 
 -- ---- the integer is congruent to the bits
 
-agree-pos : (w n : ℕ) → Agree w (pos n) n
-agree-pos w n = refl
-
 agree-wrapped : (w n : ℕ) → Agree w (pos n -ℤ pos (2 ^ w)) n
 agree-wrapped w n =
     M.lift-add (2 ^ w) (2 ^ w - 1) (one-less w) (pos n) (negℤ (pos (2 ^ w)))

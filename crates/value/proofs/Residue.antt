@@ -88,6 +88,3 @@ residue-low bits z = residue-fewer (min-le-right bits 64) z
 
 pub low-low : (bits n : ℕ) → lowBits (n % 2 ^ 64) bits ≡ lowBits n bits
 low-low bits n = residue-low bits (pos n)
-
-pub residue-small : (w : ℕ) (n : ℕ) → n < 2 ^ w → residue w (pos n) ≡ n
-residue-small w n h = mod-eq-of-lt h
