@@ -4,15 +4,13 @@ use mathlib.Core.List.{List, []}
 use Prim.Native.Nat.{ℕ, _+_, _≤_, _<_}
 use native.Mathlib.Nat.{lt-of-not-le, le-of-suc-le-suc}
 use native.Mathlib.Omega.{arith}
-use lib.ListN.{length, take, getD, drop-of-length-le, List·getD-eq-default}
-use Rattle.layout.specs.Number.{num, numberAt}
-use Rattle.layout.proofs.NumberLaws.{numberAt-lt}
+use lib.ListN.{length, getD, List·getD-eq-default}
+use Rattle.layout.specs.Number.{numberAt}
 use Rattle.files.specs.Program.{textsIn}
 use Rattle.index.specs.Places.{placeFrom, textSize}
 use Rattle.index.specs.Texts.{textCount, Texts, TextAt}
 use Rattle.index.proofs.PlaceLaws.{place-order, place-next, place-strict}
 use Rattle.index.proofs.TextPlaces.{text-some, text-inside}
-use Rattle.setup.specs.Post.{Place, TextOr}
 
 pub walk-none : (b : List ℕ) → 0 ≡ placeFrom (textSize b) 0 0
 unfolding placeFrom
@@ -39,25 +37,6 @@ module _ {b : List ℕ} (all : Texts b) {at : ℕ} (k : ℕ) (here : at ≡ plac
 pub no-text : (b : List ℕ) (k : ℕ) → textCount b ≤ k → getD (textsIn b) k [] ≡ []
 unfolding textCount
 no-text b k h = List·getD-eq-default (textsIn b) [] h
-
-module _ {b : List ℕ} {at : ℕ} (p : Place b at) where
-  pub place-inside : at < length b → at + textSize b at ≤ length b
-  place-inside h = text-there (p .texts) (p .number) (p .here) (one-there (p .texts) (p .number) (p .here) h)
-
-  pub text-or : {t : List ℕ} → at < length b → TextAt b at t → TextOr b at t
-  text-or h t = record {
-    size = t .size;
-    short = omega (arith, t .size, numberAt-lt b at 1);
-    is = λ k e. t .is k (p .texts) (one-there (p .texts) k e h) e;
-  }
-
-  pub text-none : length b ≤ at → TextOr b at []
-  unfolding numberAt
-  text-none h = record {
-    size = sym (ap (λ (l : List ℕ). num (take 1 l)) (drop-of-length-le b h));
-    short = omega arith;
-    is = λ k e. sym (no-text b k (past-last (p .texts) k e h));
-  }
 
 -- ---- the walk to text k: it stands at text i
 

@@ -3,10 +3,9 @@ use mathlib.Core.Path.{_≡_}
 use mathlib.Core.Bool.{true, false}
 use mathlib.Core.List.{List, [], map}
 use mathlib.Core.Option.{none}
-use Prim.Native.Nat.{ℕ, _<_}
+use Prim.Native.Nat.{ℕ, _<_, _≤_}
 use lib.ListN.{length, getD}
 use lib.Dec.{eqb}
-use Rattle.layout.specs.Number.{numberAt}
 use Rattle.layout.specs.Text.{text, same}
 use Rattle.value.specs.declared.Val.{Val}
 use Rattle.value.specs.Value.{type, knownVal, castTo}
@@ -15,8 +14,7 @@ use Rattle.files.specs.Program.{Program, textsIn, programOf}
 use Rattle.files.specs.Call.{limitsIn}
 use Rattle.definition.specs.Walk.{declaredIn}
 use Rattle.definition.specs.Statements.{nameOf, returnedAs}
-use Rattle.index.specs.Places.{placeFrom, textSize}
-use Rattle.index.specs.Texts.{Texts}
+use Rattle.index.specs.Texts.{textCount}
 use Rattle.index.specs.Symbols.{SymbolsIndexed}
 use Rattle.index.specs.Regions.{RegionsIndexed}
 use Rattle.index.specs.Blocks.{BlocksIndexed}
@@ -31,18 +29,6 @@ use Rattle.hosting.specs.Routine.{returnsAs}
 use Rattle.setup.specs.Heads.{variables, Typed, starting, ending}
 
 -- ---- texts
-
--- a place is that of a text, or past the last
-pub record Place (b : List ℕ) (at : ℕ) : Type 0 where
-  pub texts : Texts b
-  pub number : ℕ
-  pub here : at ≡ placeFrom (textSize b) 0 number
-
--- the text at such a place, empty past the last
-pub record TextOr (b : List ℕ) (at : ℕ) (t : List ℕ) : Type 0 where
-  pub size : length t ≡ numberAt b at 1
-  pub short : length t < 256
-  pub is : (k : ℕ) → at ≡ placeFrom (textSize b) 0 k → t ≡ getD (textsIn b) k []
 
 -- a name's number, or 65,536 where no name has the text
 pub record Finds (names wanted : List ℕ) (r : ℕ) : Type 0 where
@@ -67,6 +53,11 @@ pub record Spells (body : List ℕ) (n : ℕ) (w w′ : List ℕ) : Type 0 where
   pub types : (i : ℕ) → i < n → typeAt (tables w′) i ≡ typeOf (getD (textsIn body) i [])
   pub pointees : (i : ℕ) → i < n → pointeeAt (tables w′) i ≡ pointee (getD (textsIn body) i [])
   pub declared : (x : ℕ) → declaredAt (tables w′) x ≡ declaredAt (tables w) x
+
+-- after the first m types of a table, those up to n are put, where the texts are at most m: what no text spells
+pub record Unspelled (m n : ℕ) (w w′ : List ℕ) : Type 0 where
+  pub size : length w′ ≡ length w
+  pub spells : (body w₀ : List ℕ) → textCount body ≤ m → Spells body m w₀ w → Spells body n w₀ w′
 
 -- the types of the routine are all that is in a workspace
 pub record TypesSet (routine w : List ℕ) : Type 0 where

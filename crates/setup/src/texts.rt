@@ -7,8 +7,9 @@ ghost use Rattle.files.specs.Program.{textsIn};
 ghost use Rattle.files.specs.Names.{namesIn};
 ghost use Rattle.index.specs.Texts.{Texts, textCount};
 ghost use Rattle.workspace.specs.Parts.{workspaceSize};
-ghost use Rattle.setup.specs.Post.{Place, TextOr, Finds, Spells};
+ghost use Rattle.setup.specs.Post.{Finds, Spells, Unspelled};
 use index::texts::text_at;
+use spelling::Pointee;
 use spelling::points_at;
 use spelling::type_of;
 use workspace::types::put_type;
@@ -17,17 +18,6 @@ use workspace::types::put_type;
 const TYPES: usize = 512;
 
 const NONE: usize = 65536;
-
-// The text at a place, empty past the last one.
-fn text_or_none(body: &[u8], at: usize) -> &[u8]
-    requires { ⌜ Place (now body) at ⌝ }
-    ensures { λ r. ⌜ TextOr (now (body .entry)) at (now r) ⌝ }
-{
-    if at < body.len() {
-        return text_at(body, at);
-    }
-    &body[0..0]
-}
 
 // Text k.
 pub fn text_numbered(body: &[u8], k: usize) -> &[u8]
@@ -61,6 +51,19 @@ pub fn find_name(names: &[u8], wanted: &[u8]) -> usize
     NONE
 }
 
+// From a type on, what no text spells.
+fn put_unspelled(ws: &mut [u8], from: usize)
+    requires { ⌜ workspaceSize ≤ length (now ws) ⌝ }
+    ensures { λ _. ⌜ Unspelled from 512 (now (ws .entry)) (now (ws .exit)) ⌝ }
+{
+    let ty = type_of(b"");
+    let mut i = from;
+    while i < TYPES {
+        put_type(ws, i, ty, Pointee::NoPointer);
+        i += 1;
+    }
+}
+
 // What each type of the body is and points at; past the last one, what no text spells.
 pub fn put_types(types: &[u8], ws: &mut [u8])
     requires { ⌜ (Texts (now types)) × (workspaceSize ≤ length (now ws)) ⌝ }
@@ -68,10 +71,11 @@ pub fn put_types(types: &[u8], ws: &mut [u8])
 {
     let mut at = 0;
     let mut i = 0;
-    while i < TYPES {
-        let text = text_or_none(types, at);
+    while at < types.len() {
+        let text = text_at(types, at);
         put_type(ws, i, type_of(text), points_at(text));
         at = at + text.len() + 1;
         i += 1;
     }
+    put_unspelled(ws, i);
 }
