@@ -9,7 +9,7 @@ extern "C" {
     fn overlay_store(part: *mut u8, length: usize, count: usize, address: u64, byte: u8) -> usize;
     fn overlay_store_number(part: *mut u8, length: usize, count: usize, address: u64, number: u64, bytes: usize) -> usize;
     fn overlay_find(part: *const u8, length: usize, count: usize, address: u64) -> u64;
-    fn overlay_load_number(part: *const u8, length: usize, count: usize, image_count: u64, image_number: u64, address: u64, bytes: usize) -> u64;
+    fn overlay_load_number(part: *const u8, length: usize, count: usize, image_count: usize, image_number: u64, address: u64, bytes: usize) -> u64;
 }
 
 /// The bytes of a part: `memory::PART`.

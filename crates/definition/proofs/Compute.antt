@@ -13,7 +13,7 @@ use Rattle.files.specs.Head.{variableOk, fixedOk, headOk}
 use Rattle.files.specs.Items.{reading, readFrom, every}
 use Rattle.files.specs.Names.{printable, before, nameAt, namesIn, typeAt, typesIn}
 use Rattle.files.specs.Nodes.{ruleOf, fieldOk, fieldsOk, treesFrom, trees, treesOk, rootOk}
-use Rattle.files.specs.Program.{treeFrom, treeAt, listed, blocksFrom, programOf}
+use Rattle.files.specs.Program.{treeFrom, treeAt, caseOf, listed, blocksFrom, programOf}
 use Rattle.files.specs.Refusal.{worldOk, callOk, bodiesRefusal, routineRefusal, refusal, constantRefusal}
 use Rattle.files.specs.World.{symbolOf, byteAt, bytesFrom, symbolAddress, symbolSize, imageBytes}
 use Rattle.files.specs.WorldFile.{leastName, symbolsOk, regionAt, regionsIn}
@@ -31,7 +31,7 @@ use Rattle.definition.specs.Run.{acts, start, ranOf, ranIn, ran, recordO
 use Rattle.definition.specs.State.{run}
 use Rattle.definition.specs.Statements.{returning, outcome, runStatement}
 use Rattle.definition.specs.Term.{kid, count, evals}
-use Rattle.definition.specs.Walk.{lastAddress, caseOf, taking, choosing, terminate, settle, unit, walk, walkFrom, walkAll, declaredIn, parametersSet, unsetAdded, followAt}
+use Rattle.definition.specs.Walk.{lastAddress, taking, choosing, terminate, settle, unit, walk, walkFrom, walkAll, declaredIn, parametersSet, unsetAdded, followAt}
 use Rattle.definition.specs.World.{worldOf}
 
 unfoldable pub layout-open : Unit {0}
@@ -43,7 +43,7 @@ unfolding operandsOf arithmetic division bitwise truth order test shift binaryOf
 value-open = tt
 
 unfoldable pub files-open : Unit {0}
-unfolding statementOk statementsOk blockOk blockAt blocksIn callBodyOk limitsOf body startOf bodyOk tableOk variableOk fixedOk headOk reading readFrom every printable before nameAt namesIn typeAt typesIn ruleOf fieldOk fieldsOk treesFrom trees treesOk rootOk treeFrom treeAt listed blocksFrom programOf worldOk callOk bodiesRefusal routineRefusal refusal constantRefusal symbolOf byteAt bytesFrom symbolAddress symbolSize imageBytes leastName symbolsOk regionAt regionsIn
+unfolding statementOk statementsOk blockOk blockAt blocksIn callBodyOk limitsOf body startOf bodyOk tableOk variableOk fixedOk headOk reading readFrom every printable before nameAt namesIn typeAt typesIn ruleOf fieldOk fieldsOk treesFrom trees treesOk rootOk treeFrom treeAt caseOf listed blocksFrom programOf worldOk callOk bodiesRefusal routineRefusal refusal constantRefusal symbolOf byteAt bytesFrom symbolAddress symbolSize imageBytes leastName symbolsOk regionAt regionsIn
 files-open = tt
 
 unfoldable pub memory-open : Unit {0}
@@ -51,7 +51,7 @@ unfolding find store entries.entry
 memory-open = tt
 
 unfoldable pub recordComputed : (routine world call : List ℕ) → List ℕ
-unfolding layout-open value-open files-open memory-open _>>=_ try constantRun constantValue constantVerdict constantNumber readVariable writeVariable pointer storeFields assignStruct assignVal assign takeAll followed call addressVal evalAs look execute stepsText variablesText textOf listingOf gather load pokes storeVal digits cut stopBody countsBody stepsBody variablesBody questionsBody layout recordBytes bodyAt questionsIn acts start ranOf ranIn ran recordOf fromState verdict number run returning outcome runStatement kid count evals lastAddress caseOf taking choosing terminate settle unit walk walkFrom walkAll declaredIn parametersSet unsetAdded followAt worldOf
+unfolding layout-open value-open files-open memory-open _>>=_ try constantRun constantValue constantVerdict constantNumber readVariable writeVariable pointer storeFields assignStruct assignVal assign takeAll followed call addressVal evalAs look execute stepsText variablesText textOf listingOf gather load pokes storeVal digits cut stopBody countsBody stepsBody variablesBody questionsBody layout recordBytes bodyAt questionsIn acts start ranOf ranIn ran recordOf fromState verdict number run returning outcome runStatement kid count evals lastAddress taking choosing terminate settle unit walk walkFrom walkAll declaredIn parametersSet unsetAdded followAt worldOf
 recordComputed routine world call = recordOf routine world call
 
 unfoldable pub listingComputed : (routine world call : List ℕ) → List ℕ

@@ -10,10 +10,11 @@ use Rattle.value.specs.declared.Val.{Val}
 use Rattle.value.specs.declared.Answer.{Answer as Result}
 use Rattle.value.specs.declared.Answer.the-variants.{Value, DivisionByZero}
 use Rattle.value.specs.Operators.{operatorOf, binaryOf}
+use Rattle.memory.specs.Overlay.{byteOr}
 use Rattle.files.specs.Program.{Kind, Constant, Var, Register, StringLiteral, FunctionName, ConditionTrue, ConditionFalse, ConstantCondition, Cast, Deref, AddressOf, Ternary, Binary, Assign, Call, Intrinsic, Return, StructInit, Field, Plain, Node, Tree, tree, Trees, nil, cons}
 use Rattle.definition.specs.Question.{Asked, Question, Answer}
 use Rattle.definition.specs.Act.{Act, done, fail, ask, act, Op, peekOp, pokeOp, getOp, setOp, pendingOp, leaveOp, spendOp, emitOp, Reply, _>>=_, Why}
-use Rattle.definition.specs.Memory.{byteOr, gather, load, pokes, storeVal}
+use Rattle.definition.specs.Memory.{gather, load, pokes, storeVal}
 use Rattle.definition.specs.Term.{Term, term, Terms, noTerms, moreTerms, eval, kids, is, kid, rest, evals}
 use Rattle.definition.specs.Evaluate.{Env, answered, numberIn, widthIn, readVariable, writeVariable, pointeeOf, pointer, storeFields, assignStruct, assignVal, assign, takenBy, takeAll, followed, call, addressVal, evalAs, look, looks, execute}
 use Rattle.definition.proofs.Every.{Any, Every, every-bind, every-done, every-fail, every-ask, every-act, every-if, every-option}

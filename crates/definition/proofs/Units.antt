@@ -10,14 +10,14 @@ use lib.ListN.{length, length-append, getElem?}
 use lib.Dec.{ltb}
 use Rattle.value.specs.declared.Val.{Val}
 use Rattle.layout.specs.Text.{text}
-use Rattle.files.specs.Program.{Return, Statement, Case, Terminator, returns, goto, branch, switch, Block, Program, Tree}
+use Rattle.files.specs.Program.{Return, Statement, Case, caseOf, Terminator, returns, goto, branch, switch, Block, Program, Tree}
 use Rattle.definition.specs.Question.{World, Entry}
 use Rattle.definition.specs.Act.{Op, peekOp, pokeOp, getOp, setOp, pendingOp, leaveOp, spendOp, emitOp, Act, done, pending, emit, End, gave, stopped, try, _>>=_, Why, Step, Pending}
 use Rattle.definition.specs.State.{State, next, leaving, run}
 use Rattle.definition.specs.Term.{Term, Terms, is}
 use Rattle.definition.specs.Evaluate.{Env, numberIn, look}
 use Rattle.definition.specs.Statements.{Stop, Returned, Steps, Unknown, NoBlock, NoBlocks, NoReturn, Halted, Outcome, noteOf, outcomeOf, returning, isNamed, isHalted, outcome, runStatement}
-use Rattle.definition.specs.Walk.{Place, before, within, Next, stops, goes, caseOf, extended, leftTo, addressOr, taking, choosing, terminate, settle, onward, unit}
+use Rattle.definition.specs.Walk.{Place, before, within, Next, stops, goes, extended, leftTo, addressOr, taking, choosing, terminate, settle, onward, unit}
 use Rattle.definition.proofs.Follow.{goOn, run-bind}
 use Rattle.definition.proofs.Every.{Any, None, EndIs, Every, every-bind, every-done, every-act, every-if, every-try, every-end, every-keeps, every-more}
 use Rattle.definition.proofs.Evaluation.{Inner, Quiet, q-done, q-fail, q-if, q-option, q-bind, QuietTerm, QuietTerms, quiet-none, quiet-more, q-eval, q-kids, q-look, q-execute}

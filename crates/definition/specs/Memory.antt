@@ -8,14 +8,9 @@ use Rattle.value.specs.declared.Ty.{Ty}
 use Rattle.value.specs.declared.Val.{Val}
 use Rattle.value.specs.Value.{knownVal, unknownVal}
 use Rattle.layout.specs.Number.{le, num}
+use Rattle.memory.specs.Overlay.{byteOr}
 use Rattle.definition.specs.Question.{readAt}
 use Rattle.definition.specs.Act.{Act, done, fail, ask, peek, poke, _>>=_, unknownValue}
-
--- a byte of the run's own, else the image's first
-abbrev pub byteOr : Option ℕ → List ℕ → Option ℕ
-byteOr (some b) image = some b
-byteOr none [] = none
-byteOr none (b ∷ bs) = some b
 
 -- the bytes from a on: the run's own, else the image's, which one `read` answered ("a `read` of none hides later bytes"); none if one is missing
 unfoldable pub gather : ℕ → ℕ → List ℕ → Act (Option (List ℕ))

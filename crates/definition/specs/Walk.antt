@@ -14,7 +14,7 @@ use Rattle.value.specs.Value.{type, readAs, unknownVal, castTo}
 use Rattle.memory.specs.Overlay.{Overlay, find, store}
 use Rattle.definition.specs.Act.{Act, done, fail, ask, spend, End, gave, stopped, try, _>>=_, branchUnknown, switchUnknown, noCase}
 use Rattle.definition.specs.Question.{callTo}
-use Rattle.files.specs.Program.{Statement, Case, Terminator, returns, goto, branch, switch, Block, Variable, Program, Tree, place}
+use Rattle.files.specs.Program.{Statement, Case, caseOf, Terminator, returns, goto, branch, switch, Block, Variable, Program, Tree, place}
 use Rattle.definition.specs.Term.{eval}
 use Rattle.definition.specs.Evaluate.{Env, numberIn, look}
 use Rattle.definition.specs.Statements.{Stop, Returned, Steps, Unknown, NoBlock, NoBlocks, runStatement}
@@ -40,11 +40,6 @@ lastAddress (s ∷ t ∷ ss) = lastAddress (t ∷ ss)
 abbrev pub addressOr : Option ℕ → List Statement → Option ℕ
 addressOr none ss = lastAddress ss
 addressOr (some a) ss = some a
-
--- the first case of a value, both as 64 bits
-unfoldable pub caseOf : List Case → ℕ → Option ℕ
-caseOf [] n = none
-caseOf (c ∷ cs) n = elim (eqb (c .value) n) [ true ↦ some (c .target) | false ↦ caseOf cs n ]
 
 -- a switch's value, extended by its sign bit whatever its sign is, as 64 bits
 abbrev pub extended : Val → ℕ

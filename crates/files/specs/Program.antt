@@ -5,7 +5,7 @@ use mathlib.Core.List.{List, [], _∷_}
 use mathlib.Core.Option.{Option, none, some}
 use Prim.Native.Nat.{ℕ, zero, suc, _+_, _-_, _*_, _/_}
 use lib.ListN.{length, getD}
-use lib.Dec.{ltb}
+use lib.Dec.{ltb, eqb}
 use Rattle.layout.specs.Number.{numberAt}
 use Rattle.files.specs.FileTable.{body}
 use Rattle.files.specs.Nodes.{kindOf, flagOf, refOf, widthOf, spanOf, valueOf}
@@ -98,6 +98,11 @@ pub record Statement : Type 0 where
 pub record Case : Type 0 where
   pub value : ℕ
   pub target : ℕ
+
+-- the first case of a value, both as 64 bits
+unfoldable pub caseOf : List Case → ℕ → Option ℕ
+caseOf [] n = none
+caseOf (c ∷ cs) n = elim (eqb (c .value) n) [ true ↦ some (c .target) | false ↦ caseOf cs n ]
 
 pub data Terminator : Type 0 where
   returns : Terminator

@@ -10,14 +10,14 @@ use borrow.Author.Tests.{eq-eqb, ne-eqb}
 use lib.Dec.{eqb}
 use lib.ListN.{getD}
 use Rattle.layout.specs.Number.{numberAt}
-use Rattle.files.specs.Program.{flagged, listed, caseAt, terminatorOf, treeAt}
+use Rattle.files.specs.Program.{caseOf, flagged, listed, caseAt, terminatorOf, treeAt}
 use Rattle.files.specs.Program as program
 use Rattle.index.specs.declared.Maybe.{Maybe}
 use Rattle.index.specs.declared.Maybe.the-variants.{Known, Nothing}
 use Rattle.index.specs.declared.blocks.Terminator.the-variants.{Return, Goto, Branch, Switch}
 use Rattle.index.specs.Answers.{maybeOf, optionOf}
 use Rattle.index.specs.Places.{blockSize}
-use Rattle.index.specs.Blocks.{BlockInside, Ends, caseOf, States}
+use Rattle.index.specs.Blocks.{BlockInside, Ends, States}
 
 -- ---- addresses
 

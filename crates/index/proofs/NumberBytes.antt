@@ -1,11 +1,10 @@
 -- A number of some bytes read byte by byte, and the bytes of two numbers side by side. Assumes nothing.
-use mathlib.Core.Path.{_≡_, refl, sym, ap, ap₂, subst₂, _∙_}
+use mathlib.Core.Path.{_≡_, sym, ap, ap₂, subst₂, _∙_}
 use mathlib.Core.List.{List, [], _∷_, _++_}
-use Prim.Native.Nat.{ℕ, zero, suc, _+_, _-_, _*_, _/_, _%_, _^_, _≤_, _<_}
-use native.Mathlib.Nat.{pow-le-pow-right, pow-suc, mod-lt, mul-comm}
+use Prim.Native.Nat.{ℕ, zero, suc, _+_, _-_, _*_, _/_, _^_, _≤_, _<_}
+use native.Mathlib.Nat.{pow-le-pow-right, mod-lt}
 use native.Mathlib.Omega.{arith}
 use lib.Dec.{lit<}
-use lib.Pow.{pow-add, shl-exact}
 use lib.ListN.{length, take, drop, length-drop, length-append}
 use lib.Seq.{length-take-le}
 use Rattle.layout.specs.Each.{Bytes}
@@ -81,14 +80,3 @@ module _ (j k m n : ℕ) (h : m < 256 ^ j) (g : n < 256 ^ k) where
 pub le-read : (s : List ℕ) (i k : ℕ) → Bytes s → i + k ≤ length s → le k (numberAt s i k) ≡ take k (drop i s)
 unfolding numberAt
 le-read s i k bytes h = le-num k (take k (drop i s)) (length-take-le k (drop i s) (rw length-drop (omega arith))) (each-take k (drop i s) (each-drop i s bytes))
-
-pub bytes-pow : (k : ℕ) → 256 ^ k ≡ 2 ^ (k * 8)
-bytes-pow zero = refl
-bytes-pow (suc k) =
-    let q : suc k * 8 ≡ k * 8 + 8 = omega arith in
-    pow-suc 256 k ∙ ap (λ (n : ℕ). n * 256) (bytes-pow k) ∙ sym (pow-add 2 (k * 8) 8) ∙ ap (λ (n : ℕ). 2 ^ n) (sym q)
-
--- a number of k bytes shifted past j bytes, where a word has them all
-pub shifted : (j k n : ℕ) → n < 256 ^ k → j + k ≤ 8 → n * 2 ^ (j * 8) % 2 ^ 64 ≡ 256 ^ j * n
-shifted j k n h l =
-    shl-exact (k * 8) (j * 8) 64 (rw (← bytes-pow k) h) (omega arith) ∙ mul-comm n (2 ^ (j * 8)) ∙ ap (λ (m : ℕ). m * n) (sym (bytes-pow j))

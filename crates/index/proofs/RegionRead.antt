@@ -16,9 +16,10 @@ use Rattle.layout.specs.Format.{whole}
 use Rattle.layout.proofs.NumberLaws.{numberAt-lt}
 use Rattle.layout.proofs.StoreLaws.{each-byte}
 use Rattle.files.specs.World.{region, byteAt, bytesFrom}
-use Rattle.index.specs.declared.regions.Image.{Image}
+use Rattle.memory.specs.declared.Image.{Image}
+use Rattle.memory.proofs.LoadLaws.{shifted}
 use Rattle.index.specs.Regions.{startAt, endAt, RegionInside, LengthOf, Regions, RegionsIndexed, Numbered, Holding, Located, Gathered, ReadFrom}
-use Rattle.index.proofs.NumberBytes.{le-join, join-small, le-read, shifted}
+use Rattle.index.proofs.NumberBytes.{le-join, join-small, le-read}
 use Rattle.index.proofs.RegionBytes.{byte-none, byte-held, bytes-none, bytes-run}
 use Rattle.index.proofs.RegionIndex.{in-body}
 
@@ -62,19 +63,19 @@ module _ {b : List ℕ} {a n i : ℕ} {image : Image} (all : Regions b) (at : Ho
       small : x < 256 ^ m
       small = rw ex (numberAt-lt b (i + 12 + (a + image .count - s)) m)
 
-      moved : x * 2 ^ (image .count * 8) % 2 ^ 64 ≡ 256 ^ (image .count) * x
+      moved : x * 2 ^ (8 * image .count) % 2 ^ 64 ≡ 256 ^ (image .count) * x
       moved = shifted (image .count) m x small (omega (arith, em, few, so .most))
 
       fits : image .number + 256 ^ (image .count) * x < 256 ^ (image .count + m)
       fits = join-small (image .count) m (image .number) x (so .small) small
 
-      pub sum-fits : image .number + x * 2 ^ (image .count * 8) % 2 ^ 64 < 2 ^ 64
+      pub sum-fits : image .number + x * 2 ^ (8 * image .count) % 2 ^ 64 < 2 ^ 64
       sum-fits =
           let q : image .count + m ≤ 8 = omega (arith, em, few, so .most) in
           let p : 256 ^ (image .count + m) ≤ 256 ^ 8 = pow-le-pow-right (lit< tt) q in
           rw moved (omega (arith, fits, p))
 
-      pub gathered-more : ((k : ℕ) → Fits w8 (getD b k 0)) → Gathered b a n (record { count = image .count + m; number = image .number + x * 2 ^ (image .count * 8) % 2 ^ 64 })
+      pub gathered-more : ((k : ℕ) → Fits w8 (getD b k 0)) → Gathered b a n (record { count = image .count + m; number = image .number + x * 2 ^ (8 * image .count) % 2 ^ 64 })
       gathered-more bytes =
           let c = image .count in
           let rs = whole region b in
@@ -86,7 +87,7 @@ module _ {b : List ℕ} {a n i : ℕ} {image : Image} (all : Regions b) (at : Ho
           ap (λ (k : ℕ). bytesFrom rs k (a + c)) split
           ∙ held-bytes all at m (n - (c + m)) (each-byte b (λ k. bytes k .fits)) (omega (arith, at .low, at .high, e, g .is, em))
           ∙ ap₂ (λ (y k : ℕ). le m y ++ bytesFrom rs (n - (c + m)) k) x-is after in
-          let both : le c (image .number) ++ le m x ≡ le (c + m) (image .number + x * 2 ^ (c * 8) % 2 ^ 64) =
+          let both : le c (image .number) ++ le m x ≡ le (c + m) (image .number + x * 2 ^ (8 * c) % 2 ^ 64) =
           sym (le-join c m (image .number) x (so .small) small) ∙ ap (λ (y : ℕ). le (c + m) (image .number + y)) (sym moved) in
           record {
             bytes = so .bytes ∙ ap (λ (ys : List ℕ). le c (image .number) ++ ys) run ∙ sym (append-assoc (le c (image .number)) (le m x) rest) ∙ ap (λ (ys : List ℕ). ys ++ rest) both;

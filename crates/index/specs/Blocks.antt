@@ -1,13 +1,10 @@
 -- The index of a body of blocks: for each block, in two bytes each, its place and its first statement. What the fields of a block stand for. Assumes nothing.
 use mathlib.Core.Path.{_≡_}
-use mathlib.Core.List.{List, [], _∷_}
-use mathlib.Core.Option.{Option, none, some}
-use mathlib.Core.Bool.{true, false}
+use mathlib.Core.List.{List}
 use Prim.Native.Nat.{ℕ, zero, suc, _+_, _*_, _≤_, _<_}
-use lib.Dec.{eqb}
 use lib.ListN.{length, getD}
 use Rattle.layout.specs.Number.{numberAt}
-use Rattle.files.specs.Program.{Case, treeAt, listed, statementAt, caseAt, terminatorOf, returns, goto, branch, switch}
+use Rattle.files.specs.Program.{treeAt, listed, statementAt, caseAt, terminatorOf, returns, goto, branch, switch}
 use Rattle.files.specs.Program as program
 use Rattle.index.specs.declared.blocks.Place.{Place}
 use Rattle.index.specs.declared.blocks.Statement.{Statement}
@@ -87,11 +84,6 @@ casesIn (Switch address root count) = count
 pub record Ends (b : List ℕ) (i : ℕ) (t : Terminator) : Type 0 where
   pub is : (nodes : List ℕ) → terminatorOf nodes b i (getD b (i + 2) 0) ≡ terminatorAs nodes b i t
   pub inside : i + 24 + casesIn t * 12 ≤ length b
-
--- the first case of a value, both as 64 bits
-unfoldable pub caseOf : List Case → ℕ → Option ℕ
-caseOf [] n = none
-caseOf (c ∷ cs) n = elim (eqb (c .value) n) [ true ↦ some (c .target) | false ↦ caseOf cs n ]
 
 -- a statement that the code gives is statement k
 pub record States (b : List ℕ) (k : ℕ) (s : Statement) : Type 0 where

@@ -7,7 +7,7 @@ use lib.ListN.{length}
 use Rattle.layout.specs.Number.{le, numberAt}
 use Rattle.layout.specs.Format.{whole}
 use Rattle.files.specs.World.{region, byteAt, bytesFrom}
-use Rattle.index.specs.declared.regions.Image.{Image}
+use Rattle.memory.specs.declared.Image.{Image}
 use Rattle.index.specs.Places.{placeFrom, regionSize}
 
 -- one region in so many is in the index

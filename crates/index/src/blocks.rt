@@ -3,10 +3,10 @@ ghost use mathlib.Core.Path.{_≡_};
 ghost use Prim.Native.Nat.{_+_, _*_, _≤_, _<_};
 ghost use lib.ListN.{length, getD};
 ghost use Rattle.layout.specs.Number.{numberAt};
-ghost use Rattle.files.specs.Program.{flagged, listed, caseAt};
+ghost use Rattle.files.specs.Program.{caseOf, flagged, listed, caseAt};
 ghost use Rattle.index.specs.Answers.{maybeOf};
 ghost use Rattle.index.specs.Places.{blockSize};
-ghost use Rattle.index.specs.Blocks.{blocksRoom, BlockInside, Blocks, BlocksIndexed, BlockTold, Placed, Ends, caseOf, States};
+ghost use Rattle.index.specs.Blocks.{blocksRoom, BlockInside, Blocks, BlocksIndexed, BlockTold, Placed, Ends, States};
 use crate::Maybe;
 
 // The bytes of the index: at most 2,730 blocks of at least 24 bytes.

@@ -6,6 +6,7 @@ ghost use lib.ListN.{length};
 ghost use lib.Dec.{eqb};
 ghost use Rattle.layout.specs.Number.{numberAt, putNumber};
 ghost use Rattle.index.specs.Regions.{stride, regionsRoom, RegionInside, LengthOf, Regions, RegionsIndexed, From, Numbered, Holding, Located, Gathered, ReadFrom, endAt};
+use memory::Image;
 
 // The bytes of the index: at most 5,041 regions of at least 13 bytes, so 1,261 entries.
 pub const REGIONS: usize = 2522;
@@ -15,12 +16,6 @@ const STRIDE: usize = 4;
 
 // The bytes of a region before its own.
 const HEADER: usize = 12;
-
-// Bytes that a `read` answers: how many, and the little-endian number that they are.
-pub struct Image {
-    pub count: usize,
-    pub number: u64,
-}
 
 // The first address of the region at a place.
 fn start_of(regions: &[u8], at: usize) -> u64
@@ -166,7 +161,7 @@ fn gather(regions: &[u8], at: usize, address: u64, size: usize, image: Image) ->
     let number = number_at(regions, at + HEADER + offset as usize, more);
     Image {
         count: image.count + more,
-        number: image.number + (number << (image.count * 8)),
+        number: image.number + (number << (8 * image.count)),
     }
 }
 

@@ -3,11 +3,10 @@ use mathlib.Core.Path.{_≡_, refl, sym, ap, _∙_}
 use mathlib.Core.List.{List, [], _∷_}
 use mathlib.Core.Option.{Option, none, some}
 use Prim.Native.Nat.{ℕ, zero, suc, _+_, _-_, _*_, _/_, _%_, _^_, _≤_, _<_}
-use native.Mathlib.Nat.{pow-suc, pow-le-pow-right, mul-le-mul, mul-le-mul-left, mul-comm, mod-one, mod-eq-of-lt}
+use native.Mathlib.Nat.{pow-suc, mul-le-mul-left, mul-comm, mod-one, mod-eq-of-lt}
 use native.Mathlib.Numerals.{add-one}
 use native.Mathlib.Omega.{arith}
-use lib.Dec.{lit<}
-use lib.Pow.{mod-pow-add}
+use lib.Pow.{shl-exact, mod-pow-add}
 use lib.ListN.{drop}
 use Rattle.layout.specs.Number.{le, num}
 use Rattle.memory.specs.declared.Found.the-variants.{Byte, Nothing}
@@ -85,12 +84,10 @@ power (suc i) =
     let e : 8 * suc i ≡ suc (suc (suc (suc (suc (suc (suc (suc (8 * i)))))))) = omega arith in
     ap (λ (k : ℕ). 2 ^ k) e ∙ omega (arith, power i)
 
-pub byte-up : (i b : ℕ) → i < 8 → b < 256 → b * 2 ^ (8 * i) % 2 ^ 64 ≡ 256 ^ i * b
-byte-up i b h l =
-    let e : b * 2 ^ (8 * i) ≡ 256 ^ i * b = ap (λ (x : ℕ). b * x) (power i) ∙ mul-comm b (256 ^ i) in
-    let k : 256 ^ i ≤ 256 ^ 7 = pow-le-pow-right {n = 256} (lit< tt) {i = i} {j = 7} (omega arith) in
-    let s : 256 ^ i * b ≤ 256 ^ 7 * 255 = mul-le-mul {m₁ = b} {m₂ = 255} k (omega arith) in
-    ap (λ (x : ℕ). x % 2 ^ 64) e ∙ mod-eq-of-lt (omega arith)
+-- a number of k bytes shifted past j bytes, where a word has them all
+pub shifted : (j k n : ℕ) → n < 256 ^ k → j + k ≤ 8 → n * 2 ^ (8 * j) % 2 ^ 64 ≡ 256 ^ j * n
+shifted j k n h l =
+    shl-exact (8 * k) (8 * j) 64 (rw power h) (omega arith) ∙ mul-comm n (2 ^ (8 * j)) ∙ ap (λ (m : ℕ). m * n) (power j)
 
 pub joined-lt : (i v b : ℕ) → v < 256 ^ i → b < 256 → v + 256 ^ i * b < 256 ^ suc i
 joined-lt i v b h l = rw pow-suc (omega (arith, mul-le-mul-left (256 ^ i) (le-pred b l)))

@@ -47,7 +47,7 @@ pub enum Loaded {
 
 // What the image answered to a `read`: how many bytes, and their little-endian number.
 pub struct Image {
-    pub count: u64,
+    pub count: usize,
     pub number: u64,
 }
 

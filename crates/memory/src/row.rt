@@ -148,7 +148,7 @@ fn of_image(image: Image, bytes: usize) -> Loaded
     requires { ⌜ bytes ≤ 8 ⌝ }
     ensures { λ r. ⌜ r ≡ loadedAs (loadIn [] (le (image .count) (image .number)) 0 bytes) ⌝ }
 {
-    if image.count < bytes as u64 {
+    if image.count < bytes {
         return Loaded::Unknown;
     }
     Loaded::Known(low_bytes(image.number, bytes))

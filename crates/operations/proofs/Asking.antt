@@ -1,7 +1,7 @@
 -- What asking the world is, as a run on the code's host: a question answered and written, and loads. Assumes nothing.
 use mathlib.Core.Path.{_≡_, refl, sym, ap, ap₂, _∙_, subst}
 use mathlib.Core.Bool.{Bool, true, false, not}
-use mathlib.Core.List.{List, [], _∷_}
+use mathlib.Core.List.{List, _∷_}
 use mathlib.Core.Option.{Option, none, some}
 use Prim.Native.Nat.{ℕ, zero, suc, _+_, _/_, _%_, _^_, max, _≤_, _<_}
 use native.Mathlib.Omega.{arith}
@@ -9,13 +9,12 @@ use native.Mathlib.Nat.{mod-eq-of-lt}
 use lib.ListN.{length, drop}
 use lib.Dec.{eqb}
 use borrow.Rule.Slice.PartMut.{midOf}
-use Rattle.layout.specs.Format.{whole, boolOf}
+use Rattle.layout.specs.Format.{boolOf}
 use Rattle.layout.specs.Number.{le, num}
 use Rattle.value.specs.declared.Ty.{Ty}
 use Rattle.value.specs.declared.Val.{Val}
 use Rattle.value.specs.Value.{type, knownVal, unknownVal}
-use Rattle.files.specs.World.{region, bytesFrom}
-use Rattle.memory.specs.Overlay.{Overlay, Cell, find, toByte}
+use Rattle.memory.specs.Overlay.{Overlay, Cell, byteOr, find, toByte}
 use Rattle.memory.specs.Overlay as over
 use Rattle.memory.specs.Post.{loadedAs}
 use Rattle.memory.specs.declared.Loaded.{Loaded}
@@ -23,12 +22,11 @@ use Rattle.memory.specs.declared.Loaded.the-variants as loaded
 use Rattle.memory.specs.declared.Image.{Image}
 use Rattle.definition.specs.Question.{Asked, Question, Answer, World, Entry, Span, readAt, cut}
 use Rattle.definition.specs.Act.{Act, done, ask, End, gave, _>>=_}
-use Rattle.definition.specs.Memory.{byteOr, gather, loaded, load}
+use Rattle.definition.specs.Memory.{gather, loaded, load}
 use Rattle.definition.specs.Evaluate.{loadThrough}
 use Rattle.definition.specs.Host.{hosted}
 use Rattle.definition.proofs.Hosts.{goOnFrom, hosted-bind}
 use Rattle.index.specs.Regions.{RegionsIndexed, ReadFrom}
-use Rattle.index.specs.declared.regions.Image as index
 use Rattle.stream.specs.Stream.{placed, advanced, Sent}
 use Rattle.stream.specs.Pieces.{questionBytes, readEntry}
 use Rattle.workspace.specs.Parts.{workspaceSize, registersPart, tablesPlace, tables, regionsPlace, regionsSize, regionsPart}
@@ -134,11 +132,9 @@ module _ (w : List ℕ) (t : Ty) (found : Loaded) (r : Bool) (w′ : List ℕ) w
   pub found-unknown : found ≡ loaded.Unknown → Gives w (unknownVal (type (t .bits) (t .signed))) r w′ → Gives w (foundVal t found) r w′
   found-unknown e g = found-as _ (ap (foundVal t) (sym e)) g
 
-found-byte : (z : Option Cell) (image : List ℕ) → byteOr z image ≡ over.byteOr (toByte z) image
-found-byte none [] = refl
-found-byte none (b ∷ bs) = refl
-found-byte (some c) [] = refl
-found-byte (some c) (b ∷ bs) = refl
+found-byte : (z : Option Cell) (image : List ℕ) → byteOr z image ≡ byteOr (toByte z) image
+found-byte none image = refl
+found-byte (some c) image = refl
 
 abbrev consIf : ℕ → Option (List ℕ) → Option (List ℕ)
 consIf b r = elim r [ none ↦ none | some bs ↦ some (b ∷ bs) ]
@@ -181,27 +177,27 @@ span-fits : (address size : ℕ) → address < 2 ^ 64 → size ≤ 8 → cut rea
 unfolding cut
 span-fits address size h l = ap₂ (λ (a n : ℕ). record { address = a; size = n }) (mod-eq-of-lt (omega arith)) (mod-eq-of-lt (omega arith))
 
-reads : {regions w o w′ o′ : List ℕ} (nodes symbols : List ℕ) (address size count number : ℕ) (image : index.Image) → address < 2 ^ 64 → size ≤ 8 → ReadFrom regions address size image → count ≡ image .count → number ≡ image .number
-    → Sends (questionBytes (readEntry address size count number)) w o w′ o′ → Asks (given nodes symbols regions) readAt (record { address = address; size = size }) (le count number) w o w′ o′
-reads {regions} nodes symbols address size count number image ha hs r ec en s =
+reads : {regions w o w′ o′ : List ℕ} (nodes symbols : List ℕ) (address size : ℕ) (image : Image) → address < 2 ^ 64 → size ≤ 8 → ReadFrom regions address size image
+    → Sends (questionBytes (readEntry address size (image .count) (image .number))) w o w′ o′
+    → Asks (given nodes symbols regions) readAt (record { address = address; size = size }) (le (image .count) (image .number)) w o w′ o′
+reads nodes symbols address size image ha hs r s =
     let fits = span-fits address size ha hs in
-    let same : le count number ≡ bytesFrom (whole region regions) size address = ap₂ le ec en ∙ r .bytes in
-    sends-asks (readEntry address size count number) (λ h x m. ap (x .world readAt) fits ∙ m .images address size ∙ sym same) (ap (λ (q : Span). (readAt, (q, le count number))) (sym fits)) s
+    sends-asks (readEntry address size (image .count) (image .number)) (λ h x m. ap (x .world readAt) fits ∙ m .images address size ∙ sym (r .bytes)) (ap (λ (q : Span). (readAt, (q, le (image .count) (image .number)))) (sym fits)) s
 
 load-is : (address : ℕ) (t : Ty) (n : ℕ) → n ≡ max (t .bits / 8) 1 → load address t ≡ ask readAt (record { address = address; size = n }) (λ im. gather n address im >>= λ bs. done (loaded t bs))
 unfolding load _>>=_
 load-is address t n e = rw e
 
-pub load-asks : {regions w o w₁ o′ w′ : List ℕ} {address bytes stored : ℕ} {t : Ty} (image : index.Image) (own : Image) {found : Loaded} {r : Bool} → bytes ≡ max (t .bits / 8) 1 → bytes ≤ 8 → address < 2 ^ 64
-    → ReadFrom regions address bytes image → own .count ≡ image .count → own .number ≡ image .number → Sends (questionBytes (readEntry address bytes (own .count) (own .number))) w o w₁ o′
-    → stored ≡ wordAt (registersPart w) 0 → found ≡ loadedAs (over.load (view w₁ stored .memory) (le (own .count) (own .number)) address bytes) → Gives w₁ (foundVal t found) r w′
+pub load-asks : {regions w o w₁ o′ w′ : List ℕ} {address bytes stored : ℕ} {t : Ty} (image : Image) {found : Loaded} {r : Bool} → bytes ≡ max (t .bits / 8) 1 → bytes ≤ 8 → address < 2 ^ 64
+    → ReadFrom regions address bytes image → Sends (questionBytes (readEntry address bytes (image .count) (image .number))) w o w₁ o′
+    → stored ≡ wordAt (registersPart w) 0 → found ≡ loadedAs (over.load (view w₁ stored .memory) (le (image .count) (image .number)) address bytes) → Gives w₁ (foundVal t found) r w′
     → LoadsAt regions address t w o r w′ o′
-load-asks {regions} {w} {o} {w₁} {o′} {w′} {address} {bytes} {stored} {t} image own {found} {r} eb lb la rd ec en sd es ef e = record { goes = λ nodes symbols. go nodes symbols }
+load-asks {regions} {w} {o} {w₁} {o′} {w′} {address} {bytes} {stored} {t} image {found} {r} eb lb la rd sd es ef e = record { goes = λ nodes symbols. go nodes symbols }
   where
     go : (nodes symbols : List ℕ) → Goes (given nodes symbols regions) (λ x. load address t) w o (endIn r w′) w′ o′
     go nodes symbols =
-        let s : Asks (given nodes symbols regions) readAt (record { address = address; size = bytes }) (le (own .count) (own .number)) w o w₁ o′ = reads nodes symbols address bytes (own .count) (own .number) image la lb rd ec en sd in
-        let bs = le (own .count) (own .number) in
+        let s : Asks (given nodes symbols regions) readAt (record { address = address; size = bytes }) (le (image .count) (image .number)) w o w₁ o′ = reads nodes symbols address bytes image la lb rd sd in
+        let bs = le (image .count) (image .number) in
         let got = loaded t (over.gather (view w₁ (countsIn w₁ .stored) .memory) bs address bytes) in
         let same : foundVal t found ≡ got =
         ap (foundVal t) ef ∙ sym (found-is (view w₁ stored .memory) bs address bytes t) ∙ ap (λ (n : ℕ). loaded t (over.gather (view w₁ n .memory) bs address bytes)) (es ∙ stored-word w ∙ sym (s .stored)) in

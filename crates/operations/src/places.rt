@@ -94,16 +94,6 @@ fn bytes_of(bits: u32) -> usize
     if n == 0 { 1 } else { n }
 }
 
-// The bytes that a `read` answers, as a load takes them.
-fn own(image: regions::Image) -> Image
-    ensures { λ r. ⌜ (r .count ≡ image .count) × (r .number ≡ image .number) ⌝ }
-{
-    Image {
-        count: image.count as u64,
-        number: image.number,
-    }
-}
-
 // `read` is asked, and written with the bytes that it answers.
 fn ask_read(ws: &mut [u8], out: &mut [u8], address: u64, size: usize, image: Image)
     requires { ⌜ workspaceSize ≤ length (now ws) ⌝ }
@@ -118,7 +108,7 @@ fn ask_read(ws: &mut [u8], out: &mut [u8], address: u64, size: usize, image: Ima
         second,
         address,
         size as u64,
-        image.count,
+        image.count as u64,
         image.number,
     );
     registers::set_word(ws, ASKED, cursor);
@@ -146,7 +136,7 @@ pub fn load_at(regions: &[u8], ws: &mut [u8], out: &mut [u8], address: u64, ty: 
     let stored = registers::word(ws, STORED) as usize;
     let count = registers::word(ws, REGIONS) as usize;
     let part = &ws[workspace::REGIONS..workspace::BLOCKS];
-    let image = own(regions::read(regions, part, count, address, bytes));
+    let image = regions::read(regions, part, count, address, bytes);
     ask_read(ws, out, address, bytes, image);
     let found = workspace::load_number(ws, stored, image, address, bytes);
     loaded(ws, found, ty)

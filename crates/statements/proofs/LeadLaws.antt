@@ -1,17 +1,16 @@
 -- Where terminators lead, as the code tells it. Assumes nothing.
 use mathlib.Core.Path.{_≡_, refl, sym, ap, _∙_}
 use mathlib.Core.Bool.{Bool, true, false}
-use mathlib.Core.List.{List, [], _∷_}
+use mathlib.Core.List.{List}
 use mathlib.Core.Option.{Option, none, some}
 use Prim.Native.Nat.{ℕ, zero, suc, _+_, _-_, _*_, _≤_, _<_}
 use native.Mathlib.Nat.{add-zero, add-suc, suc-add}
 use native.Mathlib.Omega.{arith}
 use borrow.Author.Tests.{eq-eqb, ne-eqb}
-use lib.Dec.{eqb}
 use lib.ListN.{length}
 use Rattle.value.specs.declared.Val.{Val}
 use Rattle.layout.specs.Number.{numberAt}
-use Rattle.files.specs.Program.{Case, Statement, listed, caseAt, statementAt}
+use Rattle.files.specs.Program.{Case, caseOf, Statement, listed, caseAt, statementAt}
 use Rattle.definition.specs.Act.{Why, branchUnknown, switchUnknown, noCase, gave, stopped}
 use Rattle.definition.specs.Statements as statements
 use Rattle.definition.specs.Walk as walk
@@ -20,7 +19,7 @@ use Rattle.index.specs.declared.Maybe.the-variants.{Known, Nothing}
 use Rattle.index.specs.declared.blocks.Place.{Place}
 use Rattle.index.specs.declared.blocks.Statement as index
 use Rattle.index.specs.Answers.{maybeOf, optionOf}
-use Rattle.index.specs.Blocks.{caseOf, States}
+use Rattle.index.specs.Blocks.{States}
 use Rattle.hosting.specs.declared.Short.{Short}
 use Rattle.hosting.specs.declared.Stop.the-variants.{Unknown}
 use Rattle.hosting.specs.declared.Outcome.{Outcome}
@@ -50,11 +49,6 @@ module _ (root taken next : ℕ) (v : Val) where
 
 -- ---- a Switch's value
 
-case-same : (cs : List Case) (n : ℕ) → caseOf cs n ≡ walk.caseOf cs n
-unfolding caseOf walk.caseOf
-case-same [] n = refl
-case-same (c ∷ cs) n = ap (λ (o : Option ℕ). elim (eqb (c .value) n) [ true ↦ some (c .target) | false ↦ o ]) (case-same cs n)
-
 known-is : {n : ℕ} (o : Option ℕ) → maybeOf o ≡ Known n → o ≡ some n
 known-is none h = absurd (let z : _≡_ {A = ℕ} 0 1 = cc in omega arith)
 known-is (some m) h = cc
@@ -68,16 +62,13 @@ module _ (root : ℕ) (cases : List Case) (v : Val) where
   switch-unknown h = rw h
 
   module _ (h : v .known ≡ true) {n : ℕ} (e : n ≡ walk.extended v) {m : Maybe} (read : m ≡ maybeOf (caseOf cases n)) where
-    case-is : caseOf cases n ≡ walk.caseOf cases (walk.extended v)
-    case-is = case-same cases n ∙ ap (walk.caseOf cases) e
-
     by-case : (o : Option ℕ) → caseOf cases n ≡ o → endEnd (switches root cases v) ≡ endEnd (elim o [ none ↦ stopped (noCase (walk.extended v)) | some b ↦ gave b ])
     by-case o q =
         ap (λ (b : Bool). endEnd {A = ℕ} (elim b [
           | false ↦ stopped (switchUnknown root)
-          | true ↦ elim (walk.caseOf cases (walk.extended v)) [ none ↦ stopped (noCase (walk.extended v)) | some b ↦ gave b ]
+          | true ↦ elim (caseOf cases (walk.extended v)) [ none ↦ stopped (noCase (walk.extended v)) | some b ↦ gave b ]
         ])) h
-        ∙ ap (λ (z : Option ℕ). endEnd {A = ℕ} (elim z [ none ↦ stopped (noCase (walk.extended v)) | some b ↦ gave b ])) (sym case-is ∙ q)
+        ∙ ap (λ (z : Option ℕ). endEnd {A = ℕ} (elim z [ none ↦ stopped (noCase (walk.extended v)) | some b ↦ gave b ])) (ap (caseOf cases) (sym e) ∙ q)
 
     pub switch-case : {b : ℕ} → m ≡ Known b → ended b ≡ endEnd (switches root cases v)
     switch-case {b} k = sym (by-case (some b) (known-is (caseOf cases n) (sym read ∙ k)))

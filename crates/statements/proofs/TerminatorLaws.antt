@@ -9,7 +9,7 @@ use lib.Dec.{eqb}
 use lib.ListN.{length, getD}
 use Rattle.value.specs.declared.Val.{Val}
 use Rattle.layout.specs.Number.{numberAt}
-use Rattle.files.specs.Program.{Case, Tree, place, treeFrom, treeAt, listed, caseAt, terminatorOf}
+use Rattle.files.specs.Program.{Case, caseOf, Tree, place, treeFrom, treeAt, listed, caseAt, terminatorOf}
 use Rattle.files.specs.Program as program
 use Rattle.definition.specs.Act.{Act, done, fail, End, gave, stopped, branchUnknown, switchUnknown, noCase}
 use Rattle.definition.specs.Evaluate.{numberIn}
@@ -109,7 +109,7 @@ module _ {g : Given} {w₀ o₀ w o : List ℕ} {a₀ : Counts} {n : ℕ} {e : E
       f : Val → Act ℕ
       f v = elim (v .known) [
         | false ↦ fail (switchUnknown (place t))
-        | true ↦ elim (walk.caseOf cases (walk.extended v)) [ none ↦ fail (noCase (walk.extended v)) | some b ↦ done b ]
+        | true ↦ elim (caseOf cases (walk.extended v)) [ none ↦ fail (noCase (walk.extended v)) | some b ↦ done b ]
       ]
 
       found : (z : ℕ) (m : Option ℕ) → elim m [ none ↦ fail (noCase z) | some b ↦ done b ] ≡ actOf {A = ℕ} (elim m [ none ↦ stopped (noCase z) | some b ↦ gave b ])
@@ -122,7 +122,7 @@ module _ {g : Given} {w₀ o₀ w o : List ℕ} {a₀ : Counts} {n : ℕ} {e : E
       by true z m = found z m
 
       same : (v : Val) → f v ≡ actOf (switches n cases v)
-      same v = by (v .known) (walk.extended v) (walk.caseOf cases (walk.extended v))
+      same v = by (v .known) (walk.extended v) (caseOf cases (walk.extended v))
 
 -- ---- each terminator
 

@@ -7,7 +7,7 @@ use Prim.Native.Nat.{ℕ, _+_}
 use lib.Dec.{eqb}
 use Rattle.value.specs.declared.Val.{Val}
 use Rattle.layout.specs.Number.{numberAt}
-use Rattle.files.specs.Program.{Program, Tree, Statement, Case, Block, blockAt, listed, caseAt, statementAt}
+use Rattle.files.specs.Program.{Program, Tree, Statement, Case, caseOf, Block, blockAt, listed, caseAt, statementAt}
 use Rattle.definition.specs.Act.{End, gave, stopped, noNote, branchUnknown, switchUnknown, noCase}
 use Rattle.definition.specs.Evaluate.{Did, did, numberIn, look}
 use Rattle.definition.specs.Record.{stepFields}
@@ -96,7 +96,7 @@ branches root taken next v = elim (numberIn v) [
 abbrev pub switches : (root : ℕ) → List Case → Val → End ℕ
 switches root cases v = elim (v .known) [
   | false ↦ stopped (switchUnknown root)
-  | true ↦ elim (walk.caseOf cases (walk.extended v)) [ none ↦ stopped (noCase (walk.extended v)) | some b ↦ gave b ]
+  | true ↦ elim (caseOf cases (walk.extended v)) [ none ↦ stopped (noCase (walk.extended v)) | some b ↦ gave b ]
 ]
 
 pub record Taken (root taken next : ℕ) (e : Evaluated) (r : Led) : Type 0 where

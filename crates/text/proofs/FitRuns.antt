@@ -15,14 +15,14 @@ use Rattle.value.specs.Value.{type, knownVal, unknownVal, castTo, readAs}
 use Rattle.spelling.specs.Spelling.{typeOf}
 use Rattle.memory.specs.Overlay.{Overlay, find, store}
 use Rattle.files.specs.Call.{Limits}
-use Rattle.files.specs.Program.{Statement, Case, Terminator, returns, goto, branch, switch, Block, Variable, Program, Tree, place, Return}
+use Rattle.files.specs.Program.{Statement, Case, caseOf, Terminator, returns, goto, branch, switch, Block, Variable, Program, Tree, place, Return}
 use Rattle.definition.specs.Question.{Asked, Question, World, cut}
 use Rattle.definition.specs.Act.{Act, done, fail, ask, act, Op, peekOp, pokeOp, getOp, setOp, pendingOp, leaveOp, spendOp, emitOp, End, gave, stopped, _>>=_, Note, noNote, fieldsWritten, valueWritten, resultUnknown, notFollowed, Pending}
 use Rattle.definition.specs.State.{State, reply, next, Out, run}
 use Rattle.definition.specs.Term.{Term, Terms, is}
 use Rattle.definition.specs.Evaluate.{Env, numberIn}
 use Rattle.definition.specs.Statements.{Stop, Unknown, NoBlock, NoBlocks, Outcome, noteOf, outcomeOf, isNamed, isHalted, returning, outcome, runStatement}
-use Rattle.definition.specs.Walk.{Place, before, within, Next, stops, goes, lastAddress, addressOr, caseOf, extended, leftTo, taking, choosing, terminate, settle, onward, blockOf, unit, walk, walkFrom, stopAt, walkAll, declaredIn, parametersSet, unsetAdded, followAt, envOf}
+use Rattle.definition.specs.Walk.{Place, before, within, Next, stops, goes, lastAddress, addressOr, extended, leftTo, taking, choosing, terminate, settle, onward, blockOf, unit, walk, walkFrom, stopAt, walkAll, declaredIn, parametersSet, unsetAdded, followAt, envOf}
 use Rattle.definition.specs.Run.{acts, start, stopOf, ranOf, ranIn}
 use Rattle.definition.proofs.Fields.{OptionFits, AnswerFits}
 use Rattle.text.proofs.Fits.{NoteFits, StepFits, StopFits, VariableFits, RanFits}

@@ -19,9 +19,10 @@ use Rattle.value.specs.Operators.{operatorOf}
 use Rattle.spelling.specs.Spelling.{typeOf, endsStar, beforeStar}
 use Rattle.files.specs.Program.{Kind, Constant, Var, Register, StringLiteral, FunctionName, ConditionTrue, ConditionFalse, ConstantCondition, Cast, Deref, AddressOf, Ternary, Binary, Assign, Call, Intrinsic, Return, StructInit, Field, Plain, kindNumbered, numberOf, Node, Tree, tree, Trees, nil, cons}
 use Rattle.files.specs.Spells.{size}
+use Rattle.memory.specs.Overlay.{byteOr}
 use Rattle.definition.specs.Question.{Asked, Question, Answer}
 use Rattle.definition.specs.Act.{Act, done, fail, ask, act, Op, peekOp, pokeOp, getOp, setOp, pendingOp, leaveOp, spendOp, emitOp, Pending, Reply, _>>=_, End, gave, stopped, try, Why, noNote, resultUnknown}
-use Rattle.definition.specs.Memory.{byteOr, gather, loaded, load, pokes, storeVal}
+use Rattle.definition.specs.Memory.{gather, loaded, load, pokes, storeVal}
 use Rattle.definition.specs.Term.{Term, term, Terms, noTerms, moreTerms, node, eval, kids, is, nothing, kid, rest, count, evals}
 use Rattle.definition.specs.Evaluate.{Env, Did, answered, numberIn, widthIn, typeOr, chosen, valueOf, unknownNote, readVariable, writeVariable, pointeeOf, pointer, storeFields, assignStruct, assignVal, assign, takenBy, takeAll, followed, call, addressVal, evalAs, look, looks, execute}
 use Rattle.definition.proofs.Fields.{OptionFits, AnswerFits}

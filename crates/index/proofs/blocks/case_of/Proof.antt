@@ -4,9 +4,8 @@ use Prim.Native.Nat.{ℕ, _+_, _-_, _≤_}
 use native.Mathlib.Omega.{arith}
 use denote.Ref.{now}
 use borrow.Author.Needs.{needs}
-use Rattle.files.specs.Program.{listed, caseAt}
+use Rattle.files.specs.Program.{caseOf, listed, caseAt}
 use Rattle.index.specs.Answers.{maybeOf}
-use Rattle.index.specs.Blocks.{caseOf}
 use Rattle.index.proofs.BlockFields.{case-hit, case-miss, case-end}
 use Rattle.index.proofs.blocks.case_of.Statement.{statement}
 use Rattle.index.proofs.blocks.case_of.Tie as tie

@@ -1,4 +1,4 @@
-use Rattle.memory.proofs.LoadLaws.{byte-up, joined-lt}
+use Rattle.memory.proofs.LoadLaws.{shifted, joined-lt}
 use native.Mathlib.Omega.{arith}
 use native.Mathlib.Nat.{pow-le-pow-right}
 use lib.Dec.{lit<}
@@ -17,12 +17,12 @@ shl-result c = search needs
 add-result : tie.Need-add-result
 add-result c =
     let x = c .args in
-    omega (arith, byte-up (x .i) (x .byte) (c .pre .0) (omega arith), joined-lt (x .i) (x .number) (x .byte) (c .pre .1) (omega arith), pow-le-pow-right {n = 256} (lit< tt) {i = suc (x .i)} {j = 8} (omega arith))
+    omega (arith, shifted (x .i) 1 (x .byte) (omega arith) (omega arith), joined-lt (x .i) (x .number) (x .byte) (c .pre .1) (omega arith), pow-le-pow-right {n = 256} (lit< tt) {i = suc (x .i)} {j = 8} (omega arith))
 
 returns : tie.Need-returns
 returns c =
     let x = c .args in
-    let e = byte-up (x .i) (x .byte) (c .pre .0) (omega arith) in
+    let e = shifted (x .i) 1 (x .byte) (omega arith) (omega arith) in
     (ap (λ (y : ℕ). x .number + y) e, omega (arith, e, joined-lt (x .i) (x .number) (x .byte) (c .pre .1) (omega arith)))
 
 pub joined-spec : {M : Type 1} → statement M

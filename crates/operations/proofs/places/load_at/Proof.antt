@@ -13,8 +13,8 @@ read-requires c κs =
 load-number-requires : tie.Need-load-number-requires
 load-number-requires c κs =
     let ask = c .before .before .before .before .before in
-    let own = ask .before .before .before in
-    let word = own .before .before .before .before .before .before in
+    let read = ask .before .before .before in
+    let word = read .before .before .before .before .before in
     let bytes = word .before .before in
     let start = bytes .before .before .before .before in
     (sends-fit _ _ _ _ _ _ (ask .ask-read .ensures) (word .word .ensures) (start .pre .0), bytes .bytes-of .ensures .1)
@@ -23,8 +23,8 @@ loaded-requires : tie.Need-loaded-requires
 loaded-requires c κs =
     let found = c .before in
     let ask = found .before .before .before .before .before .before in
-    let own = ask .before .before .before in
-    let word = own .before .before .before .before .before .before in
+    let read = ask .before .before .before in
+    let word = read .before .before .before .before .before in
     let start = word .before .before .before .before .before .before in
     sends-room _ _ _ _ _ _ (ask .ask-read .ensures) (start .pre .0)
 
@@ -32,13 +32,12 @@ returns : tie.Need-returns
 returns c =
     let found = c .before .before .before .before in
     let ask = found .before .before .before .before .before .before in
-    let own = ask .before .before .before in
-    let read = own .before in
+    let read = ask .before .before .before in
     let word = read .before .before .before .before .before in
     let bytes = word .before .before in
     let start = bytes .before .before .before .before in
-    load-asks (read .read .result) (own .own .result) (bytes .bytes-of .ensures .0) (bytes .bytes-of .ensures .1) (start .fits .address .fits) (read .read .ensures)
-    (own .own .ensures .0) (own .own .ensures .1) (ask .ask-read .ensures) (word .word .ensures) (found .load-number .ensures) (c .before .before .loaded .ensures)
+    load-asks (read .read .result) (bytes .bytes-of .ensures .0) (bytes .bytes-of .ensures .1) (start .fits .address .fits) (read .read .ensures)
+    (ask .ask-read .ensures) (word .word .ensures) (found .load-number .ensures) (c .before .before .loaded .ensures)
 
 pub load-at-spec : {M : Type 1} → statement M
 load-at-spec =
@@ -51,7 +50,6 @@ load-at-spec =
     (λ c. search needs)
     (λ c. search needs)
     read-requires
-    (λ c κs. search needs)
     (λ c κs. search needs)
     load-number-requires
     loaded-requires
