@@ -1,5 +1,5 @@
 -- What accepted files tell the code that runs them: its trees, the facts of its routine, and what the tables of a workspace stand for. Assumes nothing.
-use mathlib.Core.Path.{_≡_, refl, sym, subst}
+use mathlib.Core.Path.{_≡_, refl, sym}
 use mathlib.Core.Bool.{Bool, true}
 use mathlib.Core.List.{List, [], _++_}
 use mathlib.Core.Option.{none}
@@ -19,22 +19,17 @@ use Rattle.definition.specs.World.{worldOf}
 use Rattle.definition.specs.Constant.{nothing, constantEnv}
 use Rattle.index.specs.Texts.{textCount}
 use Rattle.index.specs.Symbols.{SymbolsIndexed}
-use Rattle.index.specs.Regions.{RegionsIndexed}
 use Rattle.index.specs.Blocks.{BlocksIndexed}
 use Rattle.index.proofs.TextPlaces.{names-count, types-count}
 use Rattle.index.proofs.Accepted.{names-read, types-read, routine-names, routine-types, routine-statements, routine-block}
-use Rattle.workspace.specs.Parts.{tables, symbolsPart, regionsPart, blocksPart}
+use Rattle.workspace.specs.Parts.{symbolsPart}
 use Rattle.workspace.specs.Types.{typeAt, pointeeAt, declaredAt}
-use Rattle.workspace.specs.View.{Fit}
 use Rattle.spelling.specs.Spelling.{typeOf}
-use Rattle.hosting.specs.declared.Counts.{Counts}
 use Rattle.hosting.specs.declared.Facts.{Facts}
-use Rattle.hosting.specs.declared.Indexed.{Indexed}
 use Rattle.hosting.specs.Stands.{Stands}
-use Rattle.hosting.specs.Scene.{pointee, SymbolsRead, Narrow, Ready, Meant}
+use Rattle.hosting.specs.Scene.{pointee, SymbolsRead, Meant}
 use Rattle.hosting.specs.Routine.{Rooted, Told}
-use Rattle.hosting.specs.Setting.{howOf, givenOf, sceneOf, Tabled, constantGiven, ConstantTabled}
-use Rattle.setup.specs.Heads.{Typed}
+use Rattle.hosting.specs.Setting.{howOf, givenOf, sceneOf, constantGiven}
 use Rattle.setup.specs.Post.{Knows}
 use Rattle.setup.proofs.Standing.{root-stands}
 
@@ -120,27 +115,3 @@ module _ (r : List ℕ) (t : List ℕ)
     sizes = λ n. refl;
     images = λ a n. sym (no-bytes n a);
   }
-
--- ---- what a workspace with such tables is ready for
-
-module _ {r world : List ℕ} {x : Indexed} where
-  -- they spell the types of the routine
-  pub tabled-typed : {w : List ℕ} → Tabled r world w x → Typed (programOf r .types) (tables w)
-  tabled-typed t = record { is = t .meant 0 true .types }
-
-  -- they stay where the bytes do
-  pub tabled-kept : (w : List ℕ) {w′ : List ℕ} → tables w′ ≡ tables w → Tabled r world w x → Tabled r world w′ x
-  tabled-kept w {w′} e t = record {
-    narrow = subst Narrow (sym e) (t .narrow);
-    symbols = subst (SymbolsRead (body r 3) (body world 1)) (sym e) (t .symbols);
-    regions = subst (λ (l : List ℕ). RegionsIndexed (body world 2) (regionsPart l) (x .regions)) (sym e) (t .regions);
-    meant = λ depth second. subst (Meant (givenOf r world (howOf depth (x .regions) second)) (sceneOf r world depth)) (sym e) (t .meant depth second);
-    rooted = subst (λ (l : List ℕ). Rooted (body r 3) (body r 4) (body r 5) (blocksPart l) (x .facts .blocks)) (sym e) (t .rooted);
-    told = t .told;
-  }
-
-  pub tabled-ready : {w : List ℕ} {a : Counts} (depth : ℕ) (second : Bool) → Tabled r world w x → Fit w (a .stored) → Ready (givenOf r world (howOf depth (x .regions) second)) w a
-  tabled-ready depth second t f = record { fit = f; narrow = t .narrow; symbols = t .symbols; regions = t .regions }
-
-pub constant-ready : {r w : List ℕ} {count : ℕ} {a : Counts} → ConstantTabled r w count → a .stored ≡ 0 → Ready (constantGiven r count) w a
-constant-ready {w = w} t e = record { fit = subst (Fit w) (sym e) (t .fit); narrow = t .narrow; symbols = t .symbols; regions = t .regions }
