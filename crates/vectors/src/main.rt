@@ -1,7 +1,7 @@
 // Replays the cases of data/vectors.bin, which the original answered, and says how many of each kind agree.
-mod cases;
-mod findings;
+mod answers;
 mod replay;
+mod store;
 mod tally;
 mod unpack;
 
@@ -33,20 +33,10 @@ fn main() {
         os::fail(path);
         return;
     }
-    let mut page = io::large_buffer();
-    let mut store = [0u8; cases::STORE];
-    let mut buffer = [0u8; cases::SORT];
-    let mut workspace = [0u8; cases::SORT];
+    let mut store = store::empty();
     let count = replay::count(fd);
-    let s = replay::compare_cases(
-        fd,
-        count,
-        &mut page,
-        &mut store,
-        &mut buffer,
-        &mut workspace,
-    );
+    let t = replay::compare_cases(fd, count, &mut store);
     replay::expect_end(fd);
     libc::close(fd);
-    say_all(s.tally, count as u64);
+    say_all(t, count as u64);
 }

@@ -1,6 +1,5 @@
 // How many cases agree.
-use crate::findings;
-use crate::findings::Finding;
+use libc::STDOUT_FILENO;
 
 // How many cases of each kind there were, and how many of them agreed.
 pub struct Tally {
@@ -8,6 +7,10 @@ pub struct Tally {
     pub good_runs: u64,
     pub constants: u64,
     pub good_constants: u64,
+}
+
+fn one_if(good: bool) -> u64 {
+    if good { 1 } else { 0 }
 }
 
 impl Tally {
@@ -20,47 +23,45 @@ impl Tally {
         }
     }
 
+    pub fn of_run(good: bool) -> Self {
+        Self {
+            runs: 1,
+            good_runs: one_if(good),
+            constants: 0,
+            good_constants: 0,
+        }
+    }
+
+    pub fn of_constant(good: bool) -> Self {
+        Self {
+            runs: 0,
+            good_runs: 0,
+            constants: 1,
+            good_constants: one_if(good),
+        }
+    }
+
     pub fn cases(self) -> u64 {
         std::num::wrapping_add_u64(self.runs, self.constants)
     }
 
-    fn all_agree(self) -> bool {
+    pub fn all_agree(self) -> bool {
         (self.runs == self.good_runs) & (self.constants == self.good_constants)
     }
 
-    // 1 for a case that agrees; the first that does not is told.
-    fn noted(self, f: Finding) -> u64 {
-        match f {
-            Finding::Agrees => 1,
-            Finding::Differs {
-                what,
-                at,
-                found,
-                expected,
-            } => {
-                if self.all_agree() {
-                    findings::report(self.cases(), what, at, found, expected);
-                }
-                0
-            }
-        }
-    }
-
-    pub fn with_run(self, f: Finding) -> Self {
+    pub fn plus(self, t: Tally) -> Self {
         Self {
-            runs: std::num::wrapping_add_u64(self.runs, 1),
-            good_runs: std::num::wrapping_add_u64(self.good_runs, self.noted(f)),
-            constants: self.constants,
-            good_constants: self.good_constants,
+            runs: std::num::wrapping_add_u64(self.runs, t.runs),
+            good_runs: std::num::wrapping_add_u64(self.good_runs, t.good_runs),
+            constants: std::num::wrapping_add_u64(self.constants, t.constants),
+            good_constants: std::num::wrapping_add_u64(self.good_constants, t.good_constants),
         }
     }
+}
 
-    pub fn with_constant(self, f: Finding) -> Self {
-        Self {
-            runs: self.runs,
-            good_runs: self.good_runs,
-            constants: std::num::wrapping_add_u64(self.constants, 1),
-            good_constants: std::num::wrapping_add_u64(self.good_constants, self.noted(f)),
-        }
-    }
+// A case that does not agree. Its number counts from 0.
+pub fn tell(case: u64) {
+    io::write_all(STDOUT_FILENO, b"not as the original answered: case ");
+    io::print_decimal(STDOUT_FILENO, case);
+    io::write_all(STDOUT_FILENO, b"\n");
 }

@@ -1,17 +1,18 @@
 use borrow.Author.Needs.{needs}
-use Prim.Native.Nat.{_≤_, _-_}
+use mathlib.Core.Path.{_≡_}
+use Prim.Native.Nat.{_-_}
 use lib.ListN.{length}
-use Rattle.vectors.proofs.findings.first_wrong.Statement.{statement}
-use Rattle.vectors.proofs.findings.first_wrong.Tie as tie
+use Rattle.vectors.proofs.answers.fill.Statement.{statement}
+use Rattle.vectors.proofs.answers.fill.Tie as tie
 
 abbrev Inv-loop : tie.InvT-loop
-Inv-loop part front cleared i₀ i = i ≤ length part
+Inv-loop part₀ i₀ part i = length part ≡ length part₀
 
 abbrev μ-loop : tie.MeasureT-loop
-μ-loop part front cleared i₀ i = length part - i
+μ-loop part₀ i₀ part i = length part₀ - i
 
-pub first-wrong-spec : {M : Type 1} → statement M
-first-wrong-spec =
+pub fill-spec : {M : Type 1} → statement M
+fill-spec =
     tie.close
     (tie.spec
     Inv-loop

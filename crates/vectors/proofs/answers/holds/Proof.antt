@@ -1,18 +1,17 @@
 use borrow.Author.Needs.{needs}
-use mathlib.Core.Path.{_≡_}
-use Prim.Native.Nat.{_-_}
+use Prim.Native.Nat.{_≤_, _-_}
 use lib.ListN.{length}
-use Rattle.vectors.proofs.findings.fill.Statement.{statement}
-use Rattle.vectors.proofs.findings.fill.Tie as tie
+use Rattle.vectors.proofs.answers.holds.Statement.{statement}
+use Rattle.vectors.proofs.answers.holds.Tie as tie
 
 abbrev Inv-loop : tie.InvT-loop
-Inv-loop part₀ i₀ part i = length part ≡ length part₀
+Inv-loop part front cleared i₀ i = i ≤ length part
 
 abbrev μ-loop : tie.MeasureT-loop
-μ-loop part₀ i₀ part i = length part₀ - i
+μ-loop part front cleared i₀ i = length part - i
 
-pub fill-spec : {M : Type 1} → statement M
-fill-spec =
+pub holds-spec : {M : Type 1} → statement M
+holds-spec =
     tie.close
     (tie.spec
     Inv-loop
