@@ -20,7 +20,10 @@ same-length : tie.Need-same-length
 same-length c = search needs
 
 returns : tie.Need-returns
-returns c = search (needs, empties)
+returns c =
+    let at-clear = c .before .before in
+    let s = at-clear .before .before .before in
+    empties (s .args .ws .now) (at-clear .clear .last .0) (s .pre) (at-clear .clear .ensures)
 
 pub empty-spec : {M : Type 1} → statement M
 empty-spec =
