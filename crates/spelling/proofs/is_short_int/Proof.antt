@@ -1,11 +1,13 @@
 use Rattle.spelling.specs.Spelling.{is}
+use mathlib.Core.Path.{ap₂}
+use mathlib.Core.Bool.{_&&_}
 use borrow.Author.Needs.{needs}
 use Rattle.spelling.proofs.is_short_int.Statement.{statement}
 use Rattle.spelling.proofs.is_short_int.Tie as tie
 
 returns : tie.Need-returns
 unfolding is
-returns c = cc
+returns c = ap₂ _&&_ (c .before .before .same-bytes .ensures) (c .same-bytes2 .ensures)
 
 pub is-short-int-spec : {M : Type 1} → statement M
 is-short-int-spec =

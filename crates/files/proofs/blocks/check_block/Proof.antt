@@ -47,7 +47,9 @@ is-terminator-requires c κs = search needs
 
 returns : tie.Need-returns
 unfolding blockOk
-returns c = cc
+returns c =
+    let words = c .before .before in
+    rw (c .is-terminator .ensures, c .before .is-root .ensures, words .get323 .ensures .0, words .before .get322 .ensures .0, words .before .before .get32 .ensures .0, words .before .before .before .get64 .ensures)
 
 pub check-block-spec : {M : Type 1} → statement M
 check-block-spec =

@@ -29,7 +29,8 @@ is-root-requires c κs = search needs
 
 returns : tie.Need-returns
 unfolding statementOk
-returns c = cc
+returns c =
+    rw (c .before .is-address .ensures, c .is-root .ensures, c .before .before .get32 .ensures .0, c .before .before .before .get64 .ensures)
 
 pub check-statement-spec : {M : Type 1} → statement M
 check-statement-spec =

@@ -21,7 +21,7 @@ cast-result c = omega (arith, c .before .before .before .shared-slice-known .giv
 
 returns : tie.Need-returns
 unfolding fixedOk
-returns c = cc
+returns c = rw (c .before .before .get16 .ensures .0, c .before .get162 .ensures .0)
 
 pub check-fixed-spec : {M : Type 1} → statement M
 check-fixed-spec =

@@ -23,7 +23,7 @@ get16-requires-2 c κs = search needs
 
 returns : tie.Need-returns
 unfolding variableOk
-returns c = cc
+returns c = rw (c .before .get16 .ensures .0, c .get162 .ensures .0)
 
 pub check-variable-spec : {M : Type 1} → statement M
 check-variable-spec =

@@ -71,9 +71,13 @@ add-result : tie.Need-add-result
 add-result c = search needs
 
 returns-7 : tie.Need-returns-7
-returns-7 c = let text = c .before .before .before .before .before in
-    let length = text .before .before .before .before .before in
-    (name-good _ _ _ _ _ _ (length .told .ensures .0) (omega arith) (omega arith) (omega arith) (omega arith) _ _ (text .printed .ensures) (c .before .before .before .before .if5 .left) (c .before .precedes .ensures) (c .if6 .left), omega arith)
+returns-7 c =
+    let text = c .before .before .before .before .before in
+    let room = text .before .before in
+    let long = room .before in
+    let short = long .before in
+    let told = short .before in
+    (name-good _ _ _ _ _ _ (told .told .ensures .0) (omega (arith, told .before .if1)) (omega (arith, short .if2)) (omega (arith, long .if3)) (omega (arith, room .if4)) _ _ (text .printed .ensures) (c .before .before .before .before .if5 .left) (c .before .precedes .ensures) (c .if6 .left), omega (arith, room .if4, told .before .before))
 
 pub name-at-spec : {M : Type 1} → statement M
 name-at-spec =
