@@ -2,11 +2,12 @@
 use mathlib.Core.Path.{_≡_, refl, sym, ap, _∙_, subst}
 use mathlib.Core.Bool.{Bool, true, false, not}
 use mathlib.Core.List.{List, []}
-use Prim.Native.Nat.{ℕ, zero, suc, _+_, _*_}
+use Prim.Native.Nat.{ℕ, _+_, _*_}
 use native.Mathlib.Omega.{arith}
 use lib.ListN.{getD}
 use lib.Dec.{eqb}
 use borrow.Author.Tests.{eqb-false}
+use Rattle.layout.proofs.ArmLaws.{NoneBelow}
 use Rattle.value.specs.declared.Val.{Val}
 use Rattle.value.specs.declared.Answer.{Answer}
 use Rattle.value.specs.declared.Answer.the-variants.{Value, DivisionByZero}
@@ -110,11 +111,6 @@ alone k ne p x = (x, λ e. absurd (eqb-false k 13 ne (sym p ∙ e)))
 
 -- ---- the kinds that do nothing but give a value
 
--- a number is none of the first so many
-abbrev Past : ℕ → ℕ → Type 0
-Past zero k = Unit {0}
-Past (suc n) k = Past n k × (k ≡ n → ⊥)
-
 module _ {b s r : List ℕ} {n : ℕ} {w o : List ℕ} {q : Bool} {w′ : List ℕ} {kind : ℕ} (p : kind ≡ kindOf b n) where
   pub constant-evals : kind ≡ 0 → Gives w (knownVal (valueOf b n) (type (widthOf b n * 8) true)) q w′ → Evaluates b s r n w o q w′ o
   unfolding evalAs
@@ -153,7 +149,7 @@ module _ {b s r : List ℕ} {n : ℕ} {w o : List ℕ} {q : Bool} {w′ : List �
   plain-evals k e = by 19 (sym p ∙ k) (λ ts h. gives-goes e)
 
   -- a kind that is none of the others
-  pub last-evals : {Q : Type 0} → Fine b n → Past 18 kind → Gives w (unknownVal (type 64 true)) q w′ → Evaluates b s r n w o q w′ o × (kindOf b n ≡ 13 → Q)
+  pub last-evals : {Q : Type 0} → Fine b n → NoneBelow 18 kind → Gives w (unknownVal (type 64 true)) q w′ → Evaluates b s r n w o q w′ o × (kindOf b n ≡ 13 → Q)
   last-evals f others e = let k : kind ≡ 19 = search (last-kind (f .spells) kind p) in alone 19 refl (sym p ∙ k) (plain-evals k e)
 
 -- ---- Var and AddressOf, which an operation does whole
