@@ -6,7 +6,7 @@ use Prim.Native.Nat.{ℕ, _+_, _*_}
 use native.Mathlib.Omega.{arith}
 use lib.ListN.{getD}
 use lib.Dec.{eqb}
-use borrow.Author.Tests.{eqb-false}
+use borrow.Author.Tests.{eqb-false, not-true, not-false}
 use Rattle.layout.proofs.ArmLaws.{NoneBelow}
 use Rattle.value.specs.declared.Val.{Val}
 use Rattle.value.specs.declared.Answer.{Answer}
@@ -20,17 +20,15 @@ use Rattle.files.specs.Spells.{next}
 use Rattle.definition.specs.Act.{Act, done, _>>=_, _>>_}
 use Rattle.definition.specs.Term.{eval, evals, kid, nothing}
 use Rattle.definition.specs.Evaluate.{look, looks, evalAs, chosen, readVariable, answered}
-use Rattle.index.specs.Regions.{RegionsIndexed}
-use Rattle.workspace.specs.Parts.{tables, regionsPart, registersPart}
+use Rattle.workspace.specs.Parts.{tables, registersPart}
 use Rattle.workspace.specs.Registers.{valueAt}
 use Rattle.workspace.specs.Types.{typeAt}
-use Rattle.workspace.specs.View.{Fit}
 use Rattle.hosting.specs.declared.How.{How}
 use Rattle.hosting.specs.declared.Short.{Short}
 use Rattle.hosting.specs.Scene.{Given, given, Scene}
 use Rattle.hosting.specs.Stands.{Stands, Shape, a-cast, an-address, a-ternary, a-binary, an-intrinsic, a-leave, a-give, KidsAt, no-kid, a-kid, Fine}
 use Rattle.hosting.specs.Ending.{ended, short, shortOf, answerEnd}
-use Rattle.operations.specs.Registers.{countsIn, howIn, shortIn, resultIn, endBy, endIn}
+use Rattle.operations.specs.Registers.{shortIn, resultIn, endBy, endIn}
 use Rattle.operations.specs.Going.{ReadyIn, Goes}
 use Rattle.operations.specs.Steps.{Gives, Answers, AtHand}
 use Rattle.operations.specs.Asking.{Addresses}
@@ -47,21 +45,13 @@ by k e f = record { goes = λ t h. standing k e f h }
 
 -- ---- what an evaluation came to, by the test of what the function gave
 
-yes : (q : Bool) → not q ≡ false → q ≡ true
-yes true e = refl
-yes false e = sym e
-
-no : (q : Bool) → not q ≡ true → q ≡ false
-no true e = sym e
-no false e = refl
-
 -- of any function of the cycle
 module _ {A : Type 0} {g : How → Given} {m : Scene → Act A} {w₀ o₀ : List ℕ} (q : Bool) (a : A) (y : Short) {w o : List ℕ} where
   pub gave-on : not q ≡ false → Goes g m w₀ o₀ (endBy q a y) w o → Goes g m w₀ o₀ (ended a) w o
-  gave-on e p = told (sym (by-true y (yes q e) refl)) p
+  gave-on e p = told (sym (by-true y (not-false q e) refl)) p
 
   pub fell-on : not q ≡ true → Goes g m w₀ o₀ (endBy q a y) w o → Goes g m w₀ o₀ (short (shortOf y)) w o
-  fell-on e p = told (sym (by-false a (no q e) refl)) p
+  fell-on e p = told (sym (by-false a (not-true q e) refl)) p
 
 -- the value that is read from the registers
 pub result-is : {v : Val} (w : List ℕ) → v ≡ valueAt (registersPart w) 0 → resultIn w ≡ v
@@ -82,12 +72,6 @@ module _ {b s r : List ℕ} {n : ℕ} {w₀ o₀ : List ℕ} {q : Bool} {w o : L
   -- what is ready after an evaluation that gave a value
   pub ready-on : ReadyIn (given b s r) w₀ → not q ≡ false → Fine b n → ReadyIn (given b s r) w
   ready-on p e f = ready-after (ended-on e (f .spells)) p
-
-  pub fit-on : ReadyIn (given b s r) w₀ → not q ≡ false → Fine b n → Fit w (countsIn w .stored)
-  fit-on p e f = ready-on p e f .ready .fit
-
-  pub regions-on : ReadyIn (given b s r) w₀ → not q ≡ false → Fine b n → RegionsIndexed r (regionsPart (tables w)) (howIn w .regions)
-  regions-on p e f = ready-on p e f .ready .regions
 
 -- where a value is at hand; and where it is not, what is done then
 module _ {b s r : List ℕ} {n : ℕ} {w : List ℕ} {q : Bool} {w₁ : List ℕ} (a : AtHand b n w q w₁) where

@@ -8,4 +8,5 @@ pub mod Calling
 pub mod Siblings
 pub mod SiblingArgs
 pub mod SiblingFields
+pub mod Operands
 pub mod Entering

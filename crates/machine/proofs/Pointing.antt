@@ -7,17 +7,19 @@ use Prim.Native.Nat.{ℕ, _+_, _≤_, _<_}
 use native.Mathlib.Omega.{arith}
 use lib.ListN.{getD}
 use lib.Dec.{eqb}
-use borrow.Author.Tests.{eqb-true}
+use borrow.Author.Tests.{eqb-true, not-true, not-false}
 use Rattle.value.specs.declared.Ty.{Ty}
 use Rattle.value.specs.declared.Val.{Val}
-use Rattle.value.specs.Value.{type}
+use Rattle.value.specs.Value.{type, unknownVal}
 use Rattle.spelling.specs.Spelling.{typeOf, endsStar, beforeStar}
 use Rattle.files.specs.Nodes.{kindOf, refOf}
 use Rattle.files.specs.Program.{Tree, tree, Trees, nodeAt}
 use Rattle.definition.specs.Act.{Act, done, _>>=_}
 use Rattle.definition.specs.Term.{Term, eval, kid, kids}
+use Rattle.definition.specs.Memory.{load}
 use Rattle.definition.specs.Evaluate.{Env, look, evalAs, pointer, pointeeOf, loadThrough, typeOr}
-use Rattle.workspace.specs.Parts.{tables}
+use Rattle.workspace.specs.Parts.{tables, registersPart}
+use Rattle.workspace.specs.Registers.{valueAt}
 use Rattle.workspace.specs.Types.{pointeeAt}
 use Rattle.hosting.specs.declared.How.{How}
 use Rattle.hosting.specs.declared.Short.{Short}
@@ -27,16 +29,16 @@ use Rattle.hosting.specs.Stands.{Stands, stands, Shape, a-cast, a-deref, Fine}
 use Rattle.hosting.specs.Ending.{ended, short, shortOf}
 use Rattle.operations.specs.Registers.{shortIn, resultIn, endBy, endIn}
 use Rattle.operations.specs.Going.{ReadyIn, Goes}
-use Rattle.operations.specs.Steps.{Targets, pointeeIn, underIf}
-use Rattle.operations.specs.Asking.{Loads}
+use Rattle.operations.specs.Steps.{Gives, Targets, pointeeIn, underIf}
+use Rattle.operations.specs.Asking.{LoadsAt}
 use Rattle.machine.specs.Post.{Evaluates}
 use Rattle.hosting.proofs.Shapes.{cast-type, deref-kid}
-use Rattle.operations.proofs.Targeting.{pickIf, in-is, cast-if, target-past}
+use Rattle.operations.proofs.Targeting.{pickIf, in-is, cast-if, target-past, target-fine}
 use Rattle.operations.proofs.Targeting as targeting
 use Rattle.operations.proofs.Standing.{actAs}
-use Rattle.operations.proofs.Going.{done-goes, goes, halts, acts, told}
+use Rattle.operations.proofs.Going.{done-goes, goes, halts, acts, told, gives-goes}
 use Rattle.machine.proofs.Ranks.{left}
-use Rattle.machine.proofs.Evaluating.{by, gave-on, fell-on}
+use Rattle.machine.proofs.Evaluating.{by, gave-on, fell-on, result-is, ready-on}
 
 -- ---- what the tables tell of a Cast
 
@@ -121,13 +123,32 @@ module _ {b s r : List ℕ} {n : ℕ} {w₀ o₀ : List ℕ} {p : Target} {q : B
 
 -- ---- Deref
 
+through-known : (a : Val) (t : Ty) → a .known ≡ true → (x : Scene) → loadThrough (x .env) (a, t) ≡ load (a .number) t
+through-known a t e x = rw e
+
+through-unknown : (a : Val) (t : Ty) → a .known ≡ false → (x : Scene) → loadThrough (x .env) (a, t) ≡ done (unknownVal t)
+through-unknown a t e x = rw e
+
 module _ {b s r : List ℕ} {n : ℕ} {w₀ o₀ : List ℕ} {p : Target} {q : Bool} {w₁ o₁ : List ℕ} (k : kindOf b n ≡ 9) (f : Fine b n) (tg : Targets b w₀ (n + 1) p) (ev : Evaluates b s r (p .node) w₀ o₀ q w₁ o₁) where
-  pub deref-evals : {u : Bool} {w o : List ℕ} → not q ≡ false → Loads r (resultIn w₁) (p .ty) w₁ o₁ u w o → Evaluates b s r n w₀ o₀ u w o
+  pub deref-ready : ReadyIn (given b s r) w₀ → not q ≡ false → ReadyIn (given b s r) w₁
+  deref-ready z e = ready-on ev z e (target-fine tg (deref-kid k f))
+
+  -- through the value v that is read from the registers: what a load through it does, is the whole
+  through : {v : Val} {u : Bool} {w o : List ℕ} → not q ≡ false → v ≡ valueAt (registersPart w₁) 0 → Goes (given b s r) (λ x. loadThrough (x .env) (v, p .ty)) w₁ o₁ (endIn u w) w o
+      → Evaluates b s r n w₀ o₀ u w o
   unfolding evalAs look kid
-  deref-evals {u} {w} {o} e l = by 9 k (λ ts h. go ts h)
+  through {v} {u} {w} {o} e is l = by 9 k (λ ts h. go ts h)
     where
       go : (ts : Trees) → Shape b 9 n ts → Goes (given b s r) (λ x. actAs b x 9 n ts) w₀ o₀ (endIn u w) w o
-      go ts (a-deref h _) = goes (λ x. loadThrough (x .env)) (pointed-on (deref-kid k f) tg ev e h) (l .goes b s)
+      go ts (a-deref h _) = goes (λ x. loadThrough (x .env)) (told (ap (λ (a : Val). ended (a, p .ty)) (sym (result-is w₁ is))) (pointed-on (deref-kid k f) tg ev e h)) l
+
+  pub deref-nowhere : {v : Val} {u : Bool} {w : List ℕ} → not q ≡ false → v ≡ valueAt (registersPart w₁) 0 → not (v .known) ≡ true
+      → Gives w₁ (unknownVal (type (p .ty .bits) (p .ty .signed))) u w → Evaluates b s r n w₀ o₀ u w o₁
+  deref-nowhere {v} e is z g = through e is (acts (λ _ x _. through-unknown v (p .ty) (not-true (v .known) z) x) (gives-goes g))
+
+  pub deref-loads : {v : Val} {u : Bool} {w o : List ℕ} → not q ≡ false → v ≡ valueAt (registersPart w₁) 0 → not (v .known) ≡ false → LoadsAt r (v .number) (p .ty) w₁ o₁ u w o
+      → Evaluates b s r n w₀ o₀ u w o
+  deref-loads {v} e is z l = through e is (acts (λ _ x _. through-known v (p .ty) (not-false (v .known) z) x) (l .goes b s))
 
   pub deref-short : not q ≡ true → Evaluates b s r n w₀ o₀ false w₁ o₁
   unfolding evalAs look kid

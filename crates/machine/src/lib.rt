@@ -21,6 +21,7 @@ use operations::names;
 use operations::places;
 use operations::results;
 use operations::values;
+use value::Val;
 use workspace::registers;
 
 // Whether each argument has a value, and how many there are.
@@ -112,7 +113,7 @@ fn evaluate(
 }
 
 // The expression at node n is evaluated. A value that is at hand is read without a call of the cycle, which would cost several times as much.
-// Only for a Binary and an Assign: in other members the compiler would not inline this, and it would take a frame of its own.
+// A Binary has the same in its loop: as a call of this it would take more of the stack.
 fn operand(
     nodes: &[u8],
     symbols: &[u8],
@@ -169,10 +170,14 @@ fn deref(
     if !evaluate(nodes, symbols, regions, ws, out, pointer.node) {
         return false;
     }
-    places::load(regions, ws, out, pointer.ty)
+    let address = registers::value(ws, results::RESULT);
+    if !address.known {
+        return values::unknown(ws, pointer.ty.bits, pointer.ty.signed);
+    }
+    places::load_at(regions, ws, out, address.number, pointer.ty)
 }
 
-// A Ternary: both arms are evaluated.
+// A Ternary: both arms are evaluated. A loop has one call of the cycle in the code, and three would each have room for slices in the frame of a level.
 fn ternary(
     nodes: &[u8],
     symbols: &[u8],
@@ -186,23 +191,23 @@ fn ternary(
     requires { ⌜ kindOf (now nodes) n ≡ 11 ⌝ }
     ensures { λ r. ⌜ Evaluates (now (nodes .entry)) (now (symbols .entry)) (now (regions .entry)) n (now (ws .entry)) (now (out .entry)) r (now (ws .exit)) (now (out .exit)) ⌝ }
 {
-    let second = places::next(nodes, n + 1);
-    let third = places::next(nodes, second);
-    if !evaluate(nodes, symbols, regions, ws, out, n + 1) {
-        return false;
-    }
-    let condition = registers::value(ws, results::RESULT);
-    if !evaluate(nodes, symbols, regions, ws, out, second) {
-        return false;
-    }
-    let then = registers::value(ws, results::RESULT);
-    if !evaluate(nodes, symbols, regions, ws, out, third) {
-        return false;
+    let mut condition = Val::unknown(64, false);
+    let mut then = Val::unknown(64, false);
+    let mut i = n + 1;
+    let mut left: usize = 3;
+    while left != 0 {
+        condition = then;
+        then = registers::value(ws, results::RESULT);
+        if !evaluate(nodes, symbols, regions, ws, out, i) {
+            return false;
+        }
+        i = places::next(nodes, i);
+        left -= 1;
     }
     values::choose(ws, condition, then)
 }
 
-// A Binary, the left operand first.
+// A Binary, the left operand first. Both by one call of the cycle in the code, as in a Ternary.
 fn binary(
     nodes: &[u8],
     symbols: &[u8],
@@ -217,12 +222,20 @@ fn binary(
     ensures { λ r. ⌜ Evaluates (now (nodes .entry)) (now (symbols .entry)) (now (regions .entry)) n (now (ws .entry)) (now (out .entry)) r (now (ws .exit)) (now (out .exit)) ⌝ }
 {
     let right = places::next(nodes, n + 1);
-    if !operand(nodes, symbols, regions, ws, out, n + 1) {
-        return false;
-    }
-    let l = registers::value(ws, results::RESULT);
-    if !operand(nodes, symbols, regions, ws, out, right) {
-        return false;
+    let mut l = Val::unknown(64, false);
+    let mut i = n + 1;
+    let mut more = true;
+    while more {
+        if !names::at_hand(nodes, ws, i) {
+            if !evaluate(nodes, symbols, regions, ws, out, i) {
+                return false;
+            }
+        }
+        more = i != right;
+        if more {
+            l = registers::value(ws, results::RESULT);
+            i = right;
+        }
     }
     values::operate(nodes, ws, n, l)
 }

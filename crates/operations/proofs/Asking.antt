@@ -23,14 +23,13 @@ use Rattle.memory.specs.declared.Image.{Image}
 use Rattle.definition.specs.Question.{Asked, Question, Answer, World, Entry, Span, readAt, cut}
 use Rattle.definition.specs.Act.{Act, done, ask, End, gave, _>>=_}
 use Rattle.definition.specs.Memory.{gather, loaded, load}
-use Rattle.definition.specs.Evaluate.{loadThrough}
 use Rattle.definition.specs.Host.{hosted}
 use Rattle.definition.proofs.Hosts.{goOnFrom, hosted-bind}
 use Rattle.index.specs.Regions.{RegionsIndexed, ReadFrom}
 use Rattle.stream.specs.Stream.{placed, advanced, Sent}
 use Rattle.stream.specs.Pieces.{questionBytes, readEntry}
 use Rattle.workspace.specs.Parts.{workspaceSize, registersPart, tablesPlace, tables, regionsPlace, regionsSize, regionsPart}
-use Rattle.workspace.specs.Registers.{wordAt, valueAt}
+use Rattle.workspace.specs.Registers.{wordAt}
 use Rattle.workspace.specs.View.{view, Fit}
 use Rattle.workspace.specs.Post.{SetsWord}
 use Rattle.workspace.proofs.LendLaws.{regions-lent}
@@ -43,11 +42,11 @@ use Rattle.hosting.specs.Ending.{Ending, ended}
 use Rattle.hosting.specs.Runs.{Came, Runs}
 use Rattle.hosting.proofs.Running.{kept-on}
 use Rattle.hosting.proofs.Keeping.{kept-ready}
-use Rattle.operations.specs.Registers.{countsIn, howIn, resultIn, endIn}
+use Rattle.operations.specs.Registers.{countsIn, howIn, endIn}
 use Rattle.operations.specs.Going.{Goes}
 use Rattle.operations.specs.Steps.{Gives}
-use Rattle.operations.specs.Asking.{Sends, Asks, foundVal, LoadsAt, Loads}
-use Rattle.operations.proofs.Registers.{stored-word, asked-word, regions-word, second-word, result-value, asked-set, asked-how}
+use Rattle.operations.specs.Asking.{Sends, Asks, foundVal, LoadsAt}
+use Rattle.operations.proofs.Registers.{stored-word, asked-word, regions-word, second-word, asked-set, asked-how}
 use Rattle.operations.proofs.Going.{aside-held, goes, acts, gives-goes}
 
 -- ---- bytes sent
@@ -203,21 +202,3 @@ load-asks {regions} {w} {o} {w₁} {o′} {w′} {address} {bytes} {stored} {t} 
         ap (foundVal t) ef ∙ sym (found-is (view w₁ stored .memory) bs address bytes t) ∙ ap (λ (n : ℕ). loaded t (over.gather (view w₁ n .memory) bs address bytes)) (es ∙ stored-word w ∙ sym (s .stored)) in
         acts (λ _ x _. load-is address t bytes eb)
         (asks-goes (λ x im. gather bytes address im >>= λ z. done (loaded t z)) s (goes (λ x z. done (loaded t z)) (gather-goes bytes address bs) (gives-goes (subst (λ (v : Val). Gives w₁ v r w′) same e))))
-
--- ---- through the last result
-
-through-known : (p : Val) (t : Ty) → p .known ≡ true → (x : Scene) → loadThrough (x .env) (p, t) ≡ load (p .number) t
-through-known p t e x = rw e
-
-through-unknown : (p : Val) (t : Ty) → p .known ≡ false → (x : Scene) → loadThrough (x .env) (p, t) ≡ done (unknownVal t)
-through-unknown p t e x = rw e
-
-module _ (regions : List ℕ) (p : Val) (t : Ty) (w o : List ℕ) (r : Bool) (w′ : List ℕ) (e : p ≡ valueAt (registersPart w) 0) where
-  of-result : {o′ : List ℕ} → Loads regions p t w o r w′ o′ → Loads regions (resultIn w) t w o r w′ o′
-  of-result {o′} h = subst (λ (v : Val). Loads regions v t w o r w′ o′) (e ∙ result-value w) h
-
-  pub load-nowhere : p .known ≡ false → Gives w (unknownVal (type (t .bits) (t .signed))) r w′ → Loads regions (resultIn w) t w o r w′ o
-  load-nowhere k q = of-result (record { goes = λ nodes symbols. acts (λ _ x _. through-unknown p t k x) (gives-goes q) })
-
-  pub load-through : (o′ : List ℕ) → p .known ≡ true → LoadsAt regions (p .number) t w o r w′ o′ → Loads regions (resultIn w) t w o r w′ o′
-  load-through o′ k l = of-result (record { goes = λ nodes symbols. acts (λ _ x _. through-known p t k x) (l .goes nodes symbols) })

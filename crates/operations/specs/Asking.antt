@@ -16,7 +16,7 @@ use Rattle.definition.specs.Question.{Asked, Question, Answer, addressOf, sizeO
 use Rattle.definition.specs.Act.{Act, done, fail, ask, set, noWidth, _>>=_, _>>_}
 use Rattle.definition.specs.Memory.{load, storeVal}
 use Rattle.definition.specs.Term.{nothing}
-use Rattle.definition.specs.Evaluate.{Env, widthIn, typeOr, look, loadThrough, addressVal, assignVal}
+use Rattle.definition.specs.Evaluate.{Env, widthIn, typeOr, look, addressVal, assignVal}
 use Rattle.stream.specs.Stream.{placed, advanced}
 use Rattle.stream.specs.Pieces.{optional}
 use Rattle.workspace.specs.Parts.{tables}
@@ -55,9 +55,6 @@ foundVal t Unknown = unknownVal t
 -- with the regions alone, whatever the nodes and symbols are
 pub record LoadsAt (regions : List ℕ) (address : ℕ) (t : Ty) (w₀ o₀ : List ℕ) (r : Bool) (w o : List ℕ) : Type 0 where
   pub goes : (nodes symbols : List ℕ) → Goes (given nodes symbols regions) (λ x. load address t) w₀ o₀ (endIn r w) w o
-
-pub record Loads (regions : List ℕ) (p : Val) (t : Ty) (w₀ o₀ : List ℕ) (r : Bool) (w o : List ℕ) : Type 0 where
-  pub goes : (nodes symbols : List ℕ) → Goes (given nodes symbols regions) (λ x. loadThrough (x .env) (p, t)) w₀ o₀ (endIn r w) w o
 
 -- ---- symbols
 

@@ -34,7 +34,7 @@ ghost use Rattle.workspace.specs.View.{Fit};
 ghost use Rattle.hosting.specs.Stands.{FineFields};
 ghost use Rattle.operations.specs.Registers.{countsIn, howIn, resultIn, toldEnd, unitIn};
 ghost use Rattle.operations.specs.Going.{Works};
-ghost use Rattle.operations.specs.Asking.{Sends, foundVal, LoadsAt, Loads};
+ghost use Rattle.operations.specs.Asking.{Sends, foundVal, LoadsAt};
 ghost use Rattle.operations.specs.Steps.{Gives, Targets, baseAt, storeThrough, storeField, Builds, CountsFields};
 
 // A Deref's target: the node that is evaluated, and the type of what it points at.
@@ -140,20 +140,6 @@ pub fn load_at(regions: &[u8], ws: &mut [u8], out: &mut [u8], address: u64, ty: 
     ask_read(ws, out, address, bytes, image);
     let found = workspace::load_number(ws, stored, image, address, bytes);
     loaded(ws, found, ty)
-}
-
-// What the last result points at.
-pub fn load(regions: &[u8], ws: &mut [u8], out: &mut [u8], ty: Ty) -> bool
-    requires { ⌜ Fit (now ws) (countsIn (now ws) .stored) ⌝ }
-    requires { ⌜ RegionsIndexed (now regions) (regionsPart (tables (now ws))) (howIn (now ws) .regions) ⌝ }
-    requires { ⌜ ty .bits ≤ 64 ⌝ }
-    ensures { λ r. ⌜ Loads (now (regions .entry)) (resultIn (now (ws .entry))) ty (now (ws .entry)) (now (out .entry)) r (now (ws .exit)) (now (out .exit)) ⌝ }
-{
-    let p = registers::value(ws, RESULT);
-    if !p.known {
-        return unknown(ws, ty.bits, ty.signed);
-    }
-    load_at(regions, ws, out, p.number, ty)
 }
 
 // The bytes of a value are stored from an address on.
