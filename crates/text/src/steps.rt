@@ -1,4 +1,5 @@
-// The parts of a step's line, from the step's bytes. Where no name is told, a contract speaks of no names (`[]`).
+// The parts of a step's line, from the step's bytes: specs/Read says where each field stands. Where no name is told, a contract
+// speaks of no names (`[]`).
 ghost use mathlib.Core.Path.{_≡_};
 ghost use mathlib.Core.List.{[], _++_};
 ghost use Prim.Native.Nat.{_+_, _*_, _≤_, _<_};

@@ -1,13 +1,16 @@
-// Why a run stopped, from the bytes of the record's Stop. Where no name is told, a contract speaks of no names (`[]`).
-ghost use mathlib.Core.List.{[]};
+// Why a run stopped, from the bytes of the record's Stop: specs/Read says where each field stands. Where no name is told, a contract
+// speaks of no names (`[]`).
+ghost use mathlib.Core.List.{[], _++_};
 ghost use Prim.Native.Nat.{_+_, _≤_};
 ghost use lib.ListN.{length};
 ghost use mathlib.Core.Option.{some};
 ghost use Rattle.layout.specs.Number.{numberAt};
+ghost use Rattle.layout.specs.Text.{text};
 ghost use Rattle.files.specs.Program.{textsIn};
 ghost use Rattle.index.specs.Texts.{textCount, TextsIndexed};
 ghost use Rattle.definition.specs.Act.{noCase};
 ghost use Rattle.definition.specs.Statements.{Returned, Unknown, NoReturn, Halted};
+ghost use Rattle.definition.specs.Numerals.{decimal};
 ghost use Rattle.definition.specs.Listing.{whyText, stoppedText, stopText};
 ghost use Rattle.text.specs.Put.{Put};
 ghost use Rattle.text.specs.Read.{addressIn, whyIn, stopIn, StopThere};
@@ -45,6 +48,14 @@ fn put_case(out: &mut [u8], at: usize, value: u64) -> usize
     put_integer(out, end, word, value)
 }
 
+// That a branch or a switch, which a text tells, depends on an unknown value.
+fn put_depending(out: &mut [u8], at: usize, before: &[u8], node: u64) -> usize
+    requires { ⌜ at + length (now before) + 92 ≤ length (now out) ⌝ }
+    ensures { λ r. ⌜ (Put (now (out .entry)) at (now (before .entry) ++ (decimal node ++ text " depends on an unknown value")) (now (out .exit)) r) × (r ≤ at + length (now (before .entry)) + 92) ⌝ }
+{
+    put_numbered(out, at, before, node, 10, b" depends on an unknown value")
+}
+
 // The reason.
 fn put_why(out: &mut [u8], at: usize, names: &[u8], part: &[u8], stop: &[u8]) -> usize
     requires { ⌜ (TextsIndexed (now names) (now part)) × (StopThere (textCount (now names)) (now stop)) ⌝ }
@@ -55,22 +66,8 @@ fn put_why(out: &mut [u8], at: usize, names: &[u8], part: &[u8], stop: &[u8]) ->
     let node = layout::get32(stop, 19);
     let name = layout::get16(stop, 23) as usize;
     match layout::get8(stop, 1) {
-        1 => put_numbered(
-            out,
-            at,
-            b"the branch on node ",
-            node,
-            10,
-            b" depends on an unknown value",
-        ),
-        2 => put_numbered(
-            out,
-            at,
-            b"the switch on node ",
-            node,
-            10,
-            b" depends on an unknown value",
-        ),
+        1 => put_depending(out, at, b"the branch on node ", node),
+        2 => put_depending(out, at, b"the switch on node ", node),
         3 => put_case(out, at, number),
         4 => put_led(out, at, b"a struct stored to node ", node, 10),
         5 => put_numbered(

@@ -18,19 +18,19 @@ put-named-requires c κs =
 
 returns : tie.Need-returns
 returns c =
-    let at-match = c .before .before .before .before .before .before in
+    let at-match = c .before .before .before .before .before in
     let at-get8 = at-match .before in
     let at-get32 = at-get8 .before .before in
     let at-start = at-get32 .before .before .before .before .before .before in
-    (put-of (whyText (textsIn (now (at-start .args .names)))) (why-branch (now (at-start .args .stop)) (at-get8 .get8 .ensures .0) (at-match .match .keys1) (at-get32 .get32 .ensures .0)) (c .before .before .put-numbered .ensures .0), search needs)
+    (put-of (whyText (textsIn (now (at-start .args .names)))) (why-branch (now (at-start .args .stop)) (at-get8 .get8 .ensures .0) (at-match .match .keys1) (at-get32 .get32 .ensures .0)) (c .before .before .put-depending .ensures .0), search needs)
 
 returns-2 : tie.Need-returns-2
 returns-2 c =
-    let at-match = c .before .before .before .before .before .before in
+    let at-match = c .before .before .before .before .before in
     let at-get8 = at-match .before in
     let at-get32 = at-get8 .before .before in
     let at-start = at-get32 .before .before .before .before .before .before in
-    (put-of (whyText (textsIn (now (at-start .args .names)))) (why-switch (now (at-start .args .stop)) (at-get8 .get8 .ensures .0) (at-match .match .keys2) (at-get32 .get32 .ensures .0)) (c .before .before .put-numbered2 .ensures .0), search needs)
+    (put-of (whyText (textsIn (now (at-start .args .names)))) (why-switch (now (at-start .args .stop)) (at-get8 .get8 .ensures .0) (at-match .match .keys2) (at-get32 .get32 .ensures .0)) (c .before .before .put-depending2 .ensures .0), search needs)
 
 returns-3 : tie.Need-returns-3
 returns-3 c =
@@ -54,7 +54,7 @@ returns-5 c =
     let at-get8 = at-match .before in
     let at-get32 = at-get8 .before .before in
     let at-start = at-get32 .before .before .before .before .before .before in
-    (put-of (whyText (textsIn (now (at-start .args .names)))) (why-address (now (at-start .args .stop)) (at-get8 .get8 .ensures .0) (at-match .match .keys5) (at-get32 .get32 .ensures .0)) (c .before .before .put-numbered3 .ensures .0), search needs)
+    (put-of (whyText (textsIn (now (at-start .args .names)))) (why-address (now (at-start .args .stop)) (at-get8 .get8 .ensures .0) (at-match .match .keys5) (at-get32 .get32 .ensures .0)) (c .before .before .put-numbered .ensures .0), search needs)
 
 returns-6 : tie.Need-returns-6
 returns-6 c =
@@ -98,9 +98,7 @@ put-why-spec =
     (λ c κs. search needs)
     (λ c κs. search needs)
     (λ c. search needs)
-    (λ c. search needs)
     (λ c κs. search needs)
-    (λ c. search needs)
     (λ c. search needs)
     (λ c κs. search needs)
     (λ c κs. search needs)
