@@ -15,12 +15,11 @@ use Rattle.value.specs.declared.Val.{Val}
 use Rattle.files.specs.Program.{flagged}
 use Rattle.definition.specs.Act.{Why, branchUnknown, switchUnknown, noCase, structTo, unknownAddress, unknownValue, noWidth, storeTo, byZero, Note, noNote, fieldsWritten, valueWritten, resultUnknown, notFollowed, Step}
 use Rattle.definition.specs.Statements.{Stop, Returned, Steps, Unknown, NoBlock, NoBlocks, NoReturn, Halted}
-use Rattle.value.specs.Encoding.{val}
 use Rattle.definition.specs.Fields.{noVal, flagAndNumber}
 use Rattle.definition.specs.Record.{StopFields, stopFormat, unknownFields, stopFields, stopBody, NoteFields, noteFields, wroteFields, StepFields, stepFields, stepFormat}
 use Rattle.definition.proofs.Fields.{OptionFits, ValFits, flag-sound, val-sound}
 use Rattle.definition.proofs.Record.{stop-length}
-use Rattle.value.specs.Encoding.{valAt}
+use Rattle.value.specs.Encoding.{val, valAt}
 use Rattle.text.specs.Read.{addressIn, writtenIf, wroteIn, namesIn, noteIn, stepIn, stepSize, StepThere, whyIn, stopIn, StopThere, VariableThere}
 use Rattle.text.proofs.Fits.{WroteFits, NoteFits, StepFits, WhyFits, StopFits, VariableFits}
 use Rattle.text.proofs.Places.{stepFieldsIn, stopFieldsIn, step-at, stop-at, variable-at}

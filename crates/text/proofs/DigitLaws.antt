@@ -8,8 +8,9 @@ use native.Mathlib.Omega.{arith}
 use borrow.Author.Tests.{le-ltb, lt-ltb, ltb-true, ltb-false}
 use lib.Dec.{ltb}
 use lib.ListN.{length, set, replicate, length-append}
-use lib.Seq.{sets, set-comm}
+use lib.Seq.{sets}
 use Rattle.layout.proofs.StoreLaws.{sets-append}
+use Rattle.stream.proofs.RecordLaws.{sets-swap}
 use Rattle.definition.specs.Numerals.{digit, digits, padded}
 use Rattle.text.specs.Put.{Put, lastDigits}
 
@@ -74,11 +75,6 @@ length-last zero base n = refl
 length-last (suc k) base n =
     length-append (lastDigits k base (n / base)) (digit (n % base) ∷ []) ∙ omega (arith, length-last k base (n / base))
 
-set-sets : (xs s : List ℕ) (i j v : ℕ) → i + length xs ≤ j → sets (set s j v) i xs ≡ set (sets s i xs) j v
-set-sets [] s i j v h = refl
-set-sets (x ∷ xs) s i j v h =
-    ap (λ (l : List ℕ). sets l (suc i) xs) (set-comm s j i v x (λ e. absurd (omega arith))) ∙ set-sets xs (set s i x) (suc i) j v (omega arith)
-
 pub last-more : (s : List ℕ) (at left base rest : ℕ) → 0 < left
     → sets (set s (at + (left - 1)) (digit (rest % base))) at (lastDigits (left - 1) base (rest / base)) ≡ sets s at (lastDigits left base rest)
 unfolding lastDigits
@@ -89,7 +85,7 @@ last-more s at (suc left) base rest h =
     let l : length xs ≡ left = length-last left base (rest / base) in
     let e : suc left - 1 ≡ left = omega arith in
     rw e
-    (set-sets xs s at (at + left) d (omega arith)
+    (sym (sets-swap xs (d ∷ []) s at (at + left) (omega arith))
     ∙ ap (λ (k : ℕ). set (sets s at xs) (at + k) d) (sym l)
     ∙ sym (sets-append xs (d ∷ []) s at))
 

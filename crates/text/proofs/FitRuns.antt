@@ -109,12 +109,9 @@ module _ (n : ℕ) where
     f-choosing : {root : Tree} → FitTree n root → (cs : List Case) → Each (λ c. Below 4 (c .target)) cs → Fit n (Below 4) (choosing E root cs)
     unfolding choosing
     f-choosing {root} h cs p =
-        f-bind n (f-eval n (f-look n E env h)) (λ v g. flip (v .known) (f-fail n (place-fits h))
-        (f-option n (Below 4) (caseOf cs (extended v)) (case-fits cs (extended v) p) (f-fail n (residue-fits 64 (readAs (type (v .bits) true) (v .number)))) (λ b l. f-done n l)))
-      where
-        flip : (b : Bool) {t u : Act ℕ} → Fit n (Below 4) t → Fit n (Below 4) u → Fit n (Below 4) (elim b [ false ↦ t | true ↦ u ])
-        flip true p q = q
-        flip false p q = p
+        f-bind n (f-eval n (f-look n E env h)) (λ v g. f-if n (v .known)
+        (λ _. f-option n (Below 4) (caseOf cs (extended v)) (case-fits cs (extended v) p) (f-fail n (residue-fits 64 (readAs (type (v .bits) true) (v .number)))) (λ b l. f-done n l))
+        (λ _. f-fail n (place-fits h)))
 
     f-terminate : (ss : List Statement) → Each StatementFits ss → {t : Terminator} → EndsFit t → Fit n NextFits (terminate E ss t)
     unfolding terminate

@@ -268,27 +268,19 @@ module _ (n : ℕ) where
     f-read : (x : ℕ) → Fit ValIs (readVariable E x)
     unfolding readVariable
     f-read x =
-        f-bind (f-act {Q = OptionIs ValIs} tt (λ v h. f-done h)) (λ o h. f-some o h
+        f-bind (f-act {Q = OptionIs ValIs} tt (λ v h. f-done h)) (λ o h. f-option ValIs o h
         (f-ask (λ a g. f-option (Below 8) a (symbol-fits a g) (f-done (unknown-fits (declared-or (E .declared x) (env .declared x))))
         (λ k _. f-ask (λ z _. f-option (λ bits. bits ≤ 64) (widthIn z) (width-fits z) (f-done nothing-is) (λ bits l. f-load k (small {s = true} l))))))
         (λ v g. f-done g))
-      where
-        f-some : (o : Option Val) → OptionIs ValIs o → {m : Act Val} {s : Val → Act Val} → Fit ValIs m → ((v : Val) → ValIs v → Fit ValIs (s v)) → Fit ValIs (elim o [ some v ↦ s v | none ↦ m ])
-        f-some none h p q = p
-        f-some (some v) h p q = q v h
 
     f-write : (x : ℕ) (v : Val) → x < n → ValIs v → Fit ValIs (writeVariable E x v)
     unfolding writeVariable
     f-write x v h i =
-        f-some (E .declared x) (env .declared x)
+        f-option TyIs (E .declared x) (env .declared x)
         (f-ask (λ a g. f-option (Below 8) a (symbol-fits a g) (f-act (h, i) (λ _ _. f-done i))
         (λ k l. f-ask (λ z _. f-option (λ bits. bits ≤ 64) (widthIn z) (width-fits z) (f-fail h)
         (λ bits m. f-bind (f-store k (castTo v (type bits (v .signed))) l) (λ _ _. f-done (cast-fits (small {s = v .signed} m) v)))))))
         (λ t g. f-act (h, cast-fits g v) (λ _ _. f-done (cast-fits g v)))
-      where
-        f-some : (o : Option Ty) → OptionIs TyIs o → {m : Act Val} {s : Ty → Act Val} → Fit ValIs m → ((t : Ty) → TyIs t → Fit ValIs (s t)) → Fit ValIs (elim o [ some t ↦ s t | none ↦ m ])
-        f-some none h p q = p
-        f-some (some t) h p q = q t h
 
     pub record PointerFits (p : Val × Ty) : Type 0 where
       pub address : ValIs (p .0)
@@ -304,13 +296,8 @@ module _ (n : ℕ) where
     f-pointer : {t : Term} → FitTerm t → Fit PointerFits (pointer E t)
     unfolding pointer
     f-pointer {t = t} p =
-        f-some (pointeeOf E t) (pointee-fits t) (f-bind (f-eval p) (λ v h. f-done (record { address = h; type = sixty-four {s = true} })))
+        f-option TyIs (pointeeOf E t) (pointee-fits t) (f-bind (f-eval p) (λ v h. f-done (record { address = h; type = sixty-four {s = true} })))
         (λ y g. f-bind (f-eval (f-kid 0 (f-kids p))) (λ v h. f-done (record { address = h; type = g })))
-      where
-        f-some : (o : Option Ty) → OptionIs TyIs o → {m : Act (Val × Ty)} {s : Ty → Act (Val × Ty)} → Fit PointerFits m → ((t : Ty) → TyIs t → Fit PointerFits (s t))
-            → Fit PointerFits (elim o [ some t ↦ s t | none ↦ m ])
-        f-some none h p q = p
-        f-some (some t) h p q = q t h
 
     f-fields : (a : ℕ) {fs : Terms} → FitTerms fs → Fit Any (storeFields E a fs)
     unfolding storeFields
@@ -387,13 +374,9 @@ module _ (n : ℕ) where
     f-call : (f : Term) {ts : Terms} → FitTerms ts → count ts ≤ 16 → Fit ValIs (call E f ts)
     unfolding call followed
     f-call f {ts} p few =
-        f-bind (f-evals p) (λ vs _. f-bind (f-if (is FunctionName f) (λ _. env .follow _ _ vs) (λ _. f-done tt)) (λ r h. f-some r h
+        f-bind (f-evals p) (λ vs _. f-bind (f-if (is FunctionName f) (λ _. env .follow _ _ vs) (λ _. f-done tt)) (λ r h. f-option ValIs r h
         (f-bind (f-take p) (λ xs g. f-act (omega (arith, g .few, few), g .named) (λ _ _. f-done nothing-is)))
         (λ v g. f-done g)))
-      where
-        f-some : (o : Option Val) → OptionIs ValIs o → {m : Act Val} {s : Val → Act Val} → Fit ValIs m → ((v : Val) → ValIs v → Fit ValIs (s v)) → Fit ValIs (elim o [ some v ↦ s v | none ↦ m ])
-        f-some none h p q = p
-        f-some (some v) h p q = q v h
 
     f-address : (t : Term) → Fit ValIs (addressVal E t)
     unfolding addressVal

@@ -1,7 +1,7 @@
 -- Values fit their fields, whatever they are made of. Assumes nothing.
 use mathlib.Core.Bool.{Bool, true, false, cond, not, _&&_}
 use mathlib.Core.List.{List, [], _∷_}
-use Prim.Native.Nat.{ℕ, _-_, _^_, _≤_, _<_}
+use Prim.Native.Nat.{ℕ, _^_, _≤_}
 use native.Mathlib.Nat.{mod-lt, lt-of-lt-of-le}
 use native.Mathlib.Omega.{arith}
 use lib.Dec.{lit<, ltb, eqb}

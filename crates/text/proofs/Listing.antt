@@ -14,14 +14,13 @@ use Rattle.value.specs.declared.Val.{Val}
 use Rattle.files.specs.Program.{Program, programOf}
 use Rattle.definition.specs.Act.{Step}
 use Rattle.definition.specs.Statements.{Stop}
-use Rattle.value.specs.Encoding.{val}
 use Rattle.definition.specs.Numerals.{digits, decimal, hexadecimal}
 use Rattle.memory.specs.Entries.{memoryBody}
 use Rattle.definition.specs.Record.{stopBody, countsBody, stepFields, stepFormat, stepsBody, variablesBody, questionsBody, Ran, recordBytes, bodyAt}
 use Rattle.definition.specs.Run.{ran, number as numberOf, workspaceNeeded}
 use Rattle.definition.specs.Listing.{nameText, valText, stepText, stopText, stepsText, variablesText, textOf, listingOf}
 use Rattle.definition.proofs.Record.{body-back, body-inside}
-use Rattle.value.specs.Encoding.{valAt}
+use Rattle.value.specs.Encoding.{val, valAt}
 use Rattle.text.specs.Read.{stepIn, stepSize, StepThere, stopIn, StopThere, VariableThere}
 use Rattle.text.specs.Lines.{headerText, stopLine, variableLine, stepLines, variableLines, linesOf}
 use Rattle.text.proofs.Fits.{StepFits, VariableFits, RanFits}

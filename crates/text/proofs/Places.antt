@@ -9,9 +9,8 @@ use lib.Seq.{drop-drop}
 use Rattle.layout.specs.Number.{num, numberAt}
 use Rattle.layout.specs.Format.{Format, number, flag, pair, counted, reads, boolOf}
 use Rattle.value.specs.declared.Val.{Val}
-use Rattle.value.specs.Encoding.{val, toVal}
 use Rattle.definition.specs.Record.{StopFields, stopFormat, StepFields, stepFormat}
-use Rattle.value.specs.Encoding.{valAt}
+use Rattle.value.specs.Encoding.{val, toVal, valAt}
 use Rattle.text.specs.Read.{namesIn}
 
 module _ (s : List ℕ) where
