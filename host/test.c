@@ -257,31 +257,41 @@ static void test_fold(void)
     no_constant("nothing at all", 0, 0, 1);
 }
 
-/* One intrinsic with stores of 8 bytes each. */
-static void make_stores(uint32_t count)
+/* One intrinsic with 512 stores of 8 bytes each, and one of one byte at an address. */
+static void make_stores(uint64_t address)
 {
     uint32_t i;
     begin(&parts, 0, 0, 0, 0);
     put_text(&parts.names, "f");
-    put_text(&parts.types, "int");
-    node(&parts, INTRINSIC, 0, 0, 0, 1 + 4 * count, 0);
-    for (i = 0; i < count; i++) {
+    put_text(&parts.types, "char *");
+    over(&parts, INTRINSIC, 1 + 4 * 512 + 5);
+    for (i = 0; i < 512; i++) {
         over(&parts, ASSIGN, 4);
         over(&parts, DEREF, 2);
         constant(&parts, 4, 8 * i);
         constant(&parts, 1, 1);
     }
+    over(&parts, ASSIGN, 5);
+    over(&parts, DEREF, 3);
+    over(&parts, CAST, 2);
+    constant(&parts, 8, address);
+    constant(&parts, 1, 1);
+    statement(&parts, 0, 0, 0);
+    block(&parts, 1, ENDS, 0, 0, 0);
     finish_files(10, NULL, 0);
 }
 
+/* The last store goes to an address that is written already, or to one more. */
 static void test_stores(void)
 {
-    make_stores(512);
+    make_stores(4095);
     no_constant("4,096 addresses by itself", 0, 65536, 0);
-    make_stores(513);
-    no_constant("4,104 addresses by itself", 0, 65536, 21);
-    no_constant("4,104 addresses by itself, a longer workspace", 0, 70001, 21);
-    no_constant("4,104 addresses by itself, a short workspace", 0, 65535, 20);
+    ran("4,096 addresses in a statement", 99 + 63 + 9 * 4096, LONGEST, 65536);
+    make_stores(4096);
+    no_constant("4,097 addresses by itself", 0, 65536, 21);
+    no_constant("4,097 addresses by itself, a longer workspace", 0, 70001, 21);
+    no_constant("4,097 addresses by itself, a short workspace", 0, 65535, 20);
+    cleared("4,097 addresses in a statement", 21, LONGEST, 65536);
 }
 
 /* ---- Threads: each with buffers of its own, over the same files */
