@@ -461,6 +461,7 @@ def types():
     case("513 of no byte", b"\0" * 513)
     case("length 64", ["t" * 64, "", ""], 0)
     case("length 65", ["t" * 65, "", ""])
+    case("length 255", ["t" * 255, "", ""])
     case("byte 0x20", [" ", "a", "b"], 0)
     case("byte 0x1f", ["\x1f", "a", "b"])
     case("byte 0x7e", ["~", "a", "b"], 0)
@@ -483,6 +484,10 @@ def heads():
     case("a name past the last", head(name=3))
     case("the last type", head(kind=2), 0)
     case("a type past the last", head(kind=3))
+    run("head: the last of 512 names", 0, routine(many(512), top=head(name=511)))
+    run("head: a name past the last of 512", 4, routine(many(512), top=head(name=512)))
+    run("head: the last of 512 types", 0, routine(types=["t"] * 512, top=head(kind=511)))
+    run("head: a type past the last of 512", 4, routine(types=["t"] * 512, top=head(kind=512)))
     case("any address", head(address=2 ** 64 - 1), 0)
     case("16 parameters", head(parameters=16, variables=[(0, 0)] * 16), 0)
     case("17 parameters", head(parameters=17, variables=[(0, 0)] * 17))
@@ -517,6 +522,11 @@ def fields():
             if limit < top:
                 run("kind %d: %s %d" % (kind, field, limit + 1), 5, nodes(limit + 1))
                 run("kind %d: %s %d" % (kind, field, top), 5, nodes(top))
+    for kind in (VAR, FUNCTION, INTRINSIC):
+        run("kind %d: the last of 512 names" % kind, 0, only(tree(kind, ref=511), many(512)))
+        run("kind %d: a name past the last of 512" % kind, 5, only(tree(kind, ref=512), many(512)))
+    run("a Cast to the last of 512 types", 0, only(tree(CAST, X, ref=511), types=["t"] * 512))
+    run("a Cast past the last of 512 types", 5, only(tree(CAST, X, ref=512), types=["t"] * 512))
     run("a Constant of width 0", 5, only(tree(CONSTANT, width=0)))
     run("a Constant of width 1", 0, only(tree(CONSTANT, width=1, value=2 ** 64 - 1)))
     run("kind 19", 0, only(tree(19)))
@@ -526,7 +536,7 @@ def fields():
     run("kind 20 under a Cast", 5, only(tree(CAST, tree(20))))
 
 
-def forests():
+def child_counts():
     ranges = {k: (0, 0) for k in (0, 1, 2, 3, 4, 5, 6, 7, 19)}
     ranges.update({CAST: (1, 1), DEREF: (1, 1), ADDRESS: (1, 1), TERNARY: (3, 3), BINARY: (2, 2), ASSIGN: (2, 2), CALL: (1, 17),
                    INTRINSIC: (0, None), RETURN: (0, 1), STRUCT: (0, None), FIELD: (1, 1)})
@@ -545,11 +555,16 @@ def forests():
             run("kind %d: %d children" % (kind, most), 0, nodes(most))
             run("kind %d: %d children" % (kind, most + 1), 6, nodes(most + 1))
 
-    def chain(depth, kind=CAST, end=X):
-        t = end
-        for _ in range(depth - 1):
-            t = tree(kind, t)
-        return t
+
+def chain(depth):
+    """So many nodes, one under the other."""
+    t = X
+    for _ in range(depth - 1):
+        t = tree(CAST, t)
+    return t
+
+
+def chains():
     run("64 nodes deep", 0, only(chain(64)))
     run("65 nodes deep", 6, only(chain(65)))
     run("64 nodes deep beside others", 0, only(X + chain(64) + X))
@@ -560,6 +575,8 @@ def forests():
     run("65 nodes deep with a field", 6, only(tree(STRUCT, tree(FIELD, chain(63)))))
     run("200 nodes side by side", 0, only(X * 200))
 
+
+def spans():
     run("span 0", 6, only(tree(VAR, span=0)))
     run("span 0 in the last node", 6, only(X + tree(VAR, span=0)))
     run("a leaf's span past the end", 6, only(tree(VAR, span=2)))
@@ -572,6 +589,8 @@ def forests():
     run("a Return whose span takes one more in", 0, only(tree(RETURN, span=2) + X))
     run("two spans that fit", 0, only(tree(INTRINSIC, X, span=3) + X))
 
+
+def field_places():
     run("a field under a StructInit", 0, only(tree(STRUCT, tree(FIELD, X))))
     run("a field at the top", 6, only(X + tree(FIELD, X)))
     run("a field under a Cast", 6, only(tree(CAST, tree(FIELD, X))))
@@ -583,6 +602,8 @@ def forests():
     run("a StructInit under a field", 0, only(tree(STRUCT, tree(FIELD, tree(STRUCT)))))
     run("a StructInit of no field", 0, only(tree(STRUCT)))
 
+
+def node_bodies():
     run("19 bytes after the nodes", 6, only(X + b"\0" * 19))
     run("one byte after the nodes", 6, only(X + b"\0"))
     run("a body of 19 bytes", 6, only(b"\0" * 19))
@@ -615,14 +636,15 @@ def roots():
         run("statement: %d bytes more" % k, 7, routine(statements=statement(0) + b"\0" * k, blocks=block(1)))
 
 
-def walks():
-    none = b""
+def blocks_of(name, data, expected=7, statements=b""):
+    run("block: " + name, expected, routine(statements=statements, blocks=data))
 
-    def case(name, data, expected=7, statements=none):
-        run("block: " + name, expected, routine(statements=statements, blocks=data))
+
+def dealt():
+    case = blocks_of
     two = statement(0) * 2
-    case("none", none, 0)
-    case("none, with a statement", none, 7, statement(0))
+    case("none", b"", 0)
+    case("none, with a statement", b"", 7, statement(0))
     case("of no statement", block(0), 0)
     case("two that take two", block(1) + block(1), 0, two)
     case("two in the first", block(2) + block(0), 0, two)
@@ -633,6 +655,11 @@ def walks():
     case("65,535 statements told", block(65535), 7, two)
     case("23 bytes", block(0)[:23])
     case("a byte more", block(0) + b"\0")
+    case("a second that is wrong", block(0) + block(0, 4))
+
+
+def terminators():
+    case = blocks_of
     case("terminator 4", block(0, 4))
     case("terminator 255", block(0, 255))
     case("a Return with a flag", block(0, 0, 1, 0))
@@ -654,6 +681,10 @@ def walks():
     case("a Branch at the last node", block(0, 2, root=COUNT - 1), 0)
     case("a Branch past the last node", block(0, 2, root=COUNT))
     case("a Branch at a field", block(0, 2, root=FIELD_NODE))
+
+
+def switches():
+    case = blocks_of
     case("a Switch of no case", block(0, 3), 0)
     case("a Switch of one case", block(0, 3, taken=1, cases=[(5, 6)]), 0)
     case("a Switch of two equal cases", block(0, 3, taken=2, cases=[(5, 6), (5, 7)]), 0)
@@ -668,8 +699,8 @@ def walks():
     case("a Switch of one case fewer than there are", block(0, 3, taken=0, cases=[(5, 6)]))
     case("a Switch whose last case is cut", block(0, 3, taken=1, cases=[(5, 6)])[:-1])
     case("a Switch of 2^32 - 1 cases", block(0, 3, taken=2 ** 32 - 1, cases=[(5, 6)]))
+    case("a Switch whose cases would have 2^32 + 8 bytes, and has 8", block(0, 3, taken=(2 ** 32 + 8) // 12) + b"\0" * 8)
     case("a Switch, then a Return", block(0, 3, taken=1, cases=[(5, 6)]) + block(0), 0)
-    case("a second that is wrong", block(0) + block(0, 4))
 
 
 def worlds():
@@ -685,6 +716,9 @@ def worlds():
     symbols("descending", symbol(2) + symbol(1))
     symbols("a byte more", symbol(1) + b"\0")
     symbols("10 bytes", symbol(1)[:10])
+    run("symbols: 512", 0, w=world(many(512), b"".join(symbol(k) for k in range(512))))
+    run("symbols: the last of 512 names", 0, w=world(many(512), symbol(511)))
+    run("symbols: a name past the last of 512", 8, w=world(many(512), symbol(512)))
 
     def regions(name, data, expected=8):
         run("regions: " + name, expected, w=world(regions=data))
@@ -709,6 +743,7 @@ def worlds():
     regions("a byte lacks", region(5, b"abc", 4))
     regions("a byte more", region(5, b"abc", 2))
     regions("a length of 2^32 - 1", region(5, b"abc", 2 ** 32 - 1))
+    regions("a length of 2^32 - 12", region(5, b"", 2 ** 32 - 12))
 
 
 def calls():
@@ -801,7 +836,8 @@ def coded(f):
 
 def all_cases():
     """Each case: its name, its number, the node of a `constant_value` or None, and its files."""
-    for part in (tables, limits_of_files, names, types, heads, fields, forests, roots, walks, worlds, calls, first_of_two, constants):
+    for part in (tables, limits_of_files, names, types, heads, fields, child_counts, chains, spans, field_places, node_bodies, roots, dealt,
+                 terminators, switches, worlds, calls, first_of_two, constants):
         part()
     return CASES
 
