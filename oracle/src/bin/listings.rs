@@ -12,7 +12,9 @@ use std::{env, fs};
 use oracle::cases::case;
 use oracle::generate::Size;
 use oracle::judge::{judge, Files, LEAST_WORKSPACE};
+use oracle::source::{Call, Routine, World};
 use oracle::tiny;
+use oracle::tree::{constant, deref, intrinsic, plain, var, Tree};
 
 /// The record buffer of the listing program.
 const BUFFER: usize = 65_536;
@@ -28,11 +30,30 @@ fn main() {
     for case in &tiny {
         write(&folder.join(case.name), &case.files);
     }
+    // A record that just fills the buffer, since a symbol takes 43 bytes of
+    // questions, and one of a byte more, since four loads take 44.
+    let loads = vec![deref(constant(0x9000, 8)); 4];
+    write(&folder.join("full-buffer"), &long(vec![var("s")]));
+    write(&folder.join("a-byte-too-many"), &long(loads));
     for seed in first..first + cases {
         let files = case(seed, Size::Any).files;
         write(&folder.join(seed.to_string()), &files);
     }
-    println!("{} tiny and {cases} generated cases", tiny.len());
+    println!("{} fixed and {cases} generated cases", tiny.len() + 2);
+}
+
+/// A run of 1,038 steps, the last of which evaluates these. Without questions
+/// its record has 99 + 1,038 * 63 bytes, 43 less than the buffer.
+fn long(asking: Vec<Tree>) -> Files {
+    let routine = Routine::new("f", 0x1000, "int");
+    let routine = (1..1_038).fold(routine, |routine, _| routine.then(plain()));
+    let routine = routine.then(intrinsic("f", asking)).returns();
+    let world = World::default().symbol("s", 8, 0x2000);
+    Files {
+        routine: routine.file(),
+        world: world.region(0x2000, &[1; 8]).file(),
+        call: Call::new(2_000, &[]).file(),
+    }
 }
 
 fn write(folder: &Path, files: &Files) {
