@@ -1,10 +1,12 @@
 -- The parts of a step's line from the fields of the step. Assumes nothing.
 use mathlib.Core.Path.{_≡_, refl, sym, ap, _∙_}
 use mathlib.Core.List.{List, [], _++_}
-use Prim.Native.Nat.{ℕ, zero, suc, _+_}
+use Prim.Native.Nat.{ℕ, zero, suc, _+_, _≤_}
+use native.Mathlib.Omega.{arith}
 use borrow.Author.Tests.{ne-eqb}
 use Rattle.layout.specs.Text.{text}
 use Rattle.layout.specs.Number.{numberAt}
+use Rattle.layout.proofs.ArmLaws.{NoneBelow, none-below}
 use Rattle.definition.specs.Act.{noNote, fieldsWritten, valueWritten, resultUnknown, notFollowed}
 use Rattle.definition.specs.Listing.{addressText, wroteText, noteText, stepText}
 use Rattle.definition.specs.Numerals.{decimal}
@@ -56,11 +58,12 @@ module _ (s : List ℕ) {k : ℕ} (e : k ≡ numberAt s 34 1) where
   unfolding noteIn
   note-unknown z = rw (sym e ∙ z)
 
-  pub note-followed : (k ≡ 0 → ⊥) → (k ≡ 1 → ⊥) → (k ≡ 2 → ⊥) → (k ≡ 3 → ⊥) → notFollowed (namesIn s 63 (numberAt s 61 2)) ≡ noteIn s
+  pub note-followed : NoneBelow 4 k → notFollowed (namesIn s 63 (numberAt s 61 2)) ≡ noteIn s
   unfolding noteIn
-  note-followed a b c d =
+  note-followed h =
       let n = numberAt s 34 1 in
-      simp (ne-eqb n 0 (λ z. a (e ∙ z)), ne-eqb n 1 (λ z. b (e ∙ z)), ne-eqb n 2 (λ z. c (e ∙ z)), ne-eqb n 3 (λ z. d (e ∙ z)))
+      let l : 4 ≤ n = omega (arith, none-below 4 k h, e) in
+      simp (ne-eqb n 0 (λ z. absurd (omega arith)), ne-eqb n 1 (λ z. absurd (omega arith)), ne-eqb n 2 (λ z. absurd (omega arith)), ne-eqb n 3 (λ z. absurd (omega arith)))
 
 -- ---- the line
 

@@ -2,9 +2,11 @@
 use mathlib.Core.Path.{_≡_, sym, ap, _∙_, subst}
 use mathlib.Core.List.{List}
 use mathlib.Core.Option.{none, some}
-use Prim.Native.Nat.{ℕ, _<_}
+use Prim.Native.Nat.{ℕ, _≤_, _<_}
+use native.Mathlib.Omega.{arith}
 use borrow.Author.Tests.{ne-eqb}
 use Rattle.layout.specs.Number.{numberAt}
+use Rattle.layout.proofs.ArmLaws.{NoneBelow, none-below}
 use Rattle.value.specs.declared.Val.{Val}
 use Rattle.definition.specs.Act.{branchUnknown, switchUnknown, noCase, structTo, unknownAddress, unknownValue, noWidth, storeTo, byZero}
 use Rattle.definition.specs.Statements.{Returned, Steps, Unknown, NoBlock, NoBlocks, NoReturn, Halted}
@@ -87,8 +89,9 @@ module _ (s : List ℕ) {k : ℕ} (e : k ≡ numberAt s 0 1) where
   unfolding stopIn
   stop-no-return z = rw (sym e ∙ z)
 
-  pub stop-halted : (k ≡ 0 → ⊥) → (k ≡ 1 → ⊥) → (k ≡ 2 → ⊥) → (k ≡ 3 → ⊥) → (k ≡ 4 → ⊥) → (k ≡ 5 → ⊥) → (k ≡ 6 → ⊥) → Halted (addressIn s 2) (numberAt s 11 8) ≡ stopIn s
+  pub stop-halted : NoneBelow 7 k → Halted (addressIn s 2) (numberAt s 11 8) ≡ stopIn s
   unfolding stopIn
-  stop-halted a b c d f g h =
+  stop-halted h =
       let n = numberAt s 0 1 in
-      simp (ne-eqb n 0 (λ z. a (e ∙ z)), ne-eqb n 1 (λ z. b (e ∙ z)), ne-eqb n 2 (λ z. c (e ∙ z)), ne-eqb n 3 (λ z. d (e ∙ z)), ne-eqb n 4 (λ z. f (e ∙ z)), ne-eqb n 5 (λ z. g (e ∙ z)), ne-eqb n 6 (λ z. h (e ∙ z)))
+      let l : 7 ≤ n = omega (arith, none-below 7 k h, e) in
+      simp (ne-eqb n 0 (λ z. absurd (omega arith)), ne-eqb n 1 (λ z. absurd (omega arith)), ne-eqb n 2 (λ z. absurd (omega arith)), ne-eqb n 3 (λ z. absurd (omega arith)), ne-eqb n 4 (λ z. absurd (omega arith)), ne-eqb n 5 (λ z. absurd (omega arith)), ne-eqb n 6 (λ z. absurd (omega arith)))

@@ -38,7 +38,7 @@ returns-5 c =
     let at-match = c .before .before .before .before in
     let at-get8 = at-match .before in
     let at-start = at-get8 .before .before .before .before .before in
-    (put-of (noteText (textsIn (now (at-start .args .names)))) (note-followed (now (at-start .args .step)) (at-get8 .get8 .ensures .0) (at-match .match .rest .0 .0 .0 .1) (at-match .match .rest .0 .0 .1) (at-match .match .rest .0 .1) (at-match .match .rest .1)) (c .before .before .put-followed .ensures .0), search needs)
+    (put-of (noteText (textsIn (now (at-start .args .names)))) (note-followed (now (at-start .args .step)) (at-get8 .get8 .ensures .0) (at-match .match .rest)) (c .before .before .put-followed .ensures .0), search needs)
 
 pub put-note-spec : {M : Type 1} → statement M
 put-note-spec =

@@ -63,7 +63,7 @@ returns-8 c =
     let at-match = c .before .before .before .before in
     let at-get8 = at-match .before in
     let at-start = at-get8 .before .before .before .before .before .before in
-    (put-of (stopText (textsIn (now (at-start .args .names)))) (stop-halted (now (at-start .args .stop)) (at-get8 .get8 .ensures .0) (at-match .match .rest .0 .0 .0 .0 .0 .0 .1) (at-match .match .rest .0 .0 .0 .0 .0 .1) (at-match .match .rest .0 .0 .0 .0 .1) (at-match .match .rest .0 .0 .0 .1) (at-match .match .rest .0 .0 .1) (at-match .match .rest .0 .1) (at-match .match .rest .1)) (c .before .before .put-halted .ensures .0), search needs)
+    (put-of (stopText (textsIn (now (at-start .args .names)))) (stop-halted (now (at-start .args .stop)) (at-get8 .get8 .ensures .0) (at-match .match .rest)) (c .before .before .put-halted .ensures .0), search needs)
 
 pub put-stop-spec : {M : Type 1} → statement M
 put-stop-spec =
