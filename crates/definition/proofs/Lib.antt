@@ -1,6 +1,5 @@
 pub mod Follow
 pub mod Kept
-pub mod Grow
 pub mod Budget
 pub mod Every
 pub mod Evaluation

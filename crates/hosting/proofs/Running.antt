@@ -6,12 +6,12 @@ use mathlib.Core.Option.{Option, none, some}
 use Prim.Native.Nat.{ℕ, _≤_, _<_}
 use native.Mathlib.Nat.{le-refl, le-trans}
 use lib.ListN.{length}
+use Rattle.memory.proofs.OverlayLaws.{length-store}
 use Rattle.definition.specs.Question.{World, cut}
 use Rattle.definition.specs.Act.{Act, done, fail, ask, act, pending, Pending, End, gave, stopped, Why, _>>=_, Op, peekOp, pokeOp, getOp, setOp, pendingOp, leaveOp, spendOp, emitOp}
 use Rattle.definition.specs.Host.{Host, hosted}
 use Rattle.definition.specs.Run.{addressLimit}
 use Rattle.definition.proofs.Hosts.{goOnFrom, hosted-bind}
-use Rattle.definition.proofs.Grow.{store-grows}
 use Rattle.workspace.specs.Parts.{tables, notePart}
 use Rattle.workspace.specs.Note.{pendingIn}
 use Rattle.workspace.specs.View.{view}
@@ -40,7 +40,7 @@ module _ {S A B C : Type 0} (h : Host S) (f : A → Act B) (g : B → Act C) whe
 op-grows : (second : Bool) (s : Held) (o : Op) → length (s .view .memory) ≤ length (nextOf second s o .view .memory)
 unfolding emitted
 op-grows second s (peekOp a) = le-refl _
-op-grows second s (pokeOp a c) = store-grows a c (s .view .memory)
+op-grows second s (pokeOp a c) = length-store a c (s .view .memory)
 op-grows second s (getOp x) = le-refl _
 op-grows second s (setOp x v) = le-refl _
 op-grows second s pendingOp = le-refl _
