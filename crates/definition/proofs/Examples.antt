@@ -1,6 +1,4 @@
--- Tiny routines, run by the definition: document 01's own. Each record and listing is, byte for byte, what the Rust original gives, built
--- unchanged, for the same three files (docs/DEFINITION.md says how they were made). Rows of a routine: its table, names, types, head, nodes, statements,
--- blocks with their cases; of a record: its pairs, stop, counts, steps, variables, memory, questions. Assumes nothing.
+-- Tiny routines, run by the definition: document 01's own. Hex says where the bytes come from and what each row is. Assumes nothing.
 use mathlib.Core.Path.{_≡_, refl}
 use mathlib.Core.List.{List, [], _∷_}
 use Prim.Native.Nat.{ℕ}

@@ -1,5 +1,5 @@
 -- Laws of `run`, for any tree: what two worlds that agree on the questions asked give (`follows`); a log says what its world gives (`honest`);
--- one tree after another (`run-bind`, `run-try`). Assumes nothing.
+-- one tree after another (`run-bind`). Assumes nothing.
 use mathlib.Core.Path.{_≡_, refl, ap, _∙_}
 use mathlib.Core.List.{List, [], _∷_}
 use Rattle.definition.specs.Question.{Asked, Question, Answer, World, Entry, cut}

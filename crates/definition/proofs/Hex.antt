@@ -1,5 +1,5 @@
--- Bytes as the examples write them: rows of hexadecimal digits, two to a byte, where what is no digit, as a space, is passed over; and the lines of a
--- text. Assumes nothing.
+-- Bytes as the examples write them, and the lines of a text. Each record and listing of an example is, byte for byte, what the Rust original gives, built
+-- unchanged, for the same three files (docs/DEFINITION.md says how they were made). Assumes nothing.
 use mathlib.Core.Bool.{true, false, _&&_}
 use mathlib.Core.List.{List, [], _∷_, _++_}
 use Prim.Native.Nat.{ℕ, _+_, _-_, _*_}
@@ -20,6 +20,8 @@ bytesOf [] = []
 bytesOf (a ∷ []) = a ∷ []
 bytesOf (a ∷ b ∷ ds) = (16 * a + b) ∷ bytesOf ds
 
+-- rows of digits, two to a byte; what is no digit, as a space, is passed over. Rows of a routine: its table, names, types, head, nodes, statements, blocks
+-- with their cases; of a record: its pairs, stop, counts, steps, variables, memory, questions
 abbrev pub hex : List String → List ℕ
 hex [] = []
 hex (row ∷ rows) = bytesOf (digitsIn (text row)) ++ hex rows

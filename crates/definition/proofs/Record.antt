@@ -1,5 +1,4 @@
--- The bodies of a record are found by its pairs, however many there are (`body-back`); the bodies of steps and of questions grow at their ends. Assumes
--- nothing.
+-- The bodies of a record are found by its pairs, however many there are (`body-back`); Stop and Counts are of one length. Assumes nothing.
 use mathlib.Core.Path.{_≡_, refl, sym, ap, ap₂, _∙_}
 use mathlib.Core.List.{List, [], _∷_, _++_, append-assoc}
 use Prim.Native.Nat.{ℕ, _+_, _*_, _^_, _≤_, _<_}

@@ -15,8 +15,7 @@ abbrev pub Gives : World → Written → Type 0
 Gives w e = given w (e .0) (e .1 .0) ≡ e .1 .1
 
 -- Two accepted runs of one routine file with equal calls and equally long buffers: the records are equal, in length and in every byte, exactly when the
--- second world gives, to each question written in the first record, the answer written there. "What a world gives to a question follows from its file
--- alone"; "A name asked by is read in the routine file that both runs share".
+-- second world gives, to each question written in the first record, the answer written there
 abbrev pub TwoWorlds : Type 0
 TwoWorlds =
     (routine call world₁ world₂ : List ℕ) (buffer workspace : ℕ)
