@@ -1,4 +1,4 @@
--- What the fields of a piece say in the definition's terms: a line for each way to stop, for each reason and for each note. Assumes nothing.
+-- What the fields of a piece say in the definition's terms: a stop, a line for each note, and a step whole. Assumes nothing.
 use mathlib.Core.Path.{_≡_, refl, sym, ap, _∙_, subst}
 use mathlib.Core.Bool.{Bool, true, false}
 use mathlib.Core.List.{List, [], _∷_, _++_}

@@ -1,4 +1,4 @@
--- The bytes of a question with its answer: their groups, their lengths, and that the body grows by them. Assumes nothing.
+-- The bytes of a question with its answer: their groups and their lengths. Assumes nothing.
 use mathlib.Core.Path.{_≡_, refl, sym, ap, ap₂, _∙_}
 use mathlib.Core.List.{List, _∷_, _++_}
 use mathlib.Core.Option.{Option}

@@ -1,19 +1,20 @@
--- The bytes of a step: their groups, the taken names, their length, and that the body grows by them. Assumes nothing.
+-- The bytes of a step: their groups, the taken names, and their length. Assumes nothing.
 use mathlib.Core.Path.{_≡_, refl, sym, ap, ap₂, _∙_}
 use mathlib.Core.Bool.{Bool, true, false, cond}
-use mathlib.Core.List.{List, [], _∷_, _++_}
+use mathlib.Core.List.{List, _++_}
 use mathlib.Core.Option.{Option}
-use Prim.Native.Nat.{ℕ, zero, suc, _+_, _-_, _*_, _≤_, _<_}
+use Prim.Native.Nat.{ℕ, _+_, _-_, _*_, _≤_, _<_}
 use native.Mathlib.Omega.{arith}
 use lib.ListN.{length, take, drop, getD, length-drop}
-use lib.Seq.{sets, length-take-le, take-take, take-add}
-use mir.Val.{boolByte}
+use lib.Seq.{sets, take-take}
+use mir.Syntax.{w8}
+use mir.Val.{boolByte, Fits}
 use Rattle.value.specs.declared.Val.{Val}
 use Rattle.layout.specs.Each.{Bytes}
 use Rattle.layout.specs.Number.{le, putNumber}
 use Rattle.layout.specs.Format.{number, writes, reads}
-use Rattle.layout.proofs.NumberLaws.{le-num}
-use Rattle.layout.proofs.StoreLaws.{each-take, each-drop, each-byte}
+use Rattle.layout.proofs.StoreLaws.{each-drop, each-byte}
+use Rattle.memory.proofs.EntryLaws.{Sized, number-sized, length-reads, length-writes, writes-reads}
 use Rattle.definition.specs.Fields.{noVal, flagAndNumber}
 use Rattle.definition.specs.Record.{wroteFields}
 use Rattle.stream.specs.declared.StepPiece.{StepPiece}
@@ -61,33 +62,25 @@ names-stored s t u names at count h p q =
 
 -- ---- the taken names
 
+name : Sized (number 2) 2
+name = number-sized 2
+
 -- so many names read from bytes are those bytes when written again
 names-again : (k : ℕ) (bs : List ℕ) → Bytes bs → 2 * k ≤ length bs → writes (number 2) (reads (number 2) k bs .0) ≡ take (2 * k) bs
-names-again zero bs all h = refl
-names-again (suc k) bs all h =
-    let e : 2 * suc k ≡ 2 + 2 * k = omega arith in
-    let l : length (take 2 bs) ≡ 2 = length-take-le 2 bs (omega arith) in
-    ap₂ (λ (xs ys : List ℕ). xs ++ ys) (le-num 2 (take 2 bs) l (each-take 2 bs all)) (names-again k (drop 2 bs) (each-drop 2 bs all) (rw length-drop (omega arith)))
-    ∙ sym (take-add 2 (2 * k) bs)
-    ∙ ap (λ (n : ℕ). take n bs) (sym e)
-
-reads-count : (k : ℕ) (bs : List ℕ) → length (reads (number 2) k bs .0) ≡ k
-reads-count zero bs = refl
-reads-count (suc k) bs = ap suc (reads-count k (drop 2 bs))
+names-again k bs all h = let e : k * 2 ≡ 2 * k = omega arith in writes-reads name k bs (omega arith) all ∙ ap (λ (n : ℕ). take n bs) e
 
 pub length-taken : (taken : Bool) (names : List ℕ) → length (takenNames taken names) ≡ takenCount taken names
 unfolding takenNames
-length-taken taken names = reads-count (takenCount taken names) (drop 2 names)
+length-taken taken names = length-reads name (takenCount taken names) (drop 2 names)
 
 pub length-names : (xs : List ℕ) → length (writes (number 2) xs) ≡ 2 * length xs
-length-names [] = refl
-length-names (x ∷ xs) = omega (arith, length-names xs)
+length-names xs = omega (arith, length-writes name xs)
 
 names-bytes : (taken : Bool) (count : ℕ) (names : List ℕ) → Bytes names → 2 + 2 * count ≤ length names → count ≡ takenCount taken names
     → namesBytes count names ≡ le 2 (length (takenNames taken names)) ++ writes (number 2) (takenNames taken names)
 unfolding namesBytes takenNames
 names-bytes taken count names all h e =
-    ap₂ (λ (n : ℕ) (l : List ℕ). le 2 n ++ l) (sym (reads-count count (drop 2 names))) (sym (names-again count (drop 2 names) (each-drop 2 names all) (rw length-drop (omega arith))))
+    ap₂ (λ (n : ℕ) (l : List ℕ). le 2 n ++ l) (sym (length-reads name count (drop 2 names))) (sym (names-again count (drop 2 names) (each-drop 2 names all) (rw length-drop (omega arith))))
     ∙ ap (λ (k : ℕ). le 2 (length (reads (number 2) k (drop 2 names) .0)) ++ writes (number 2) (reads (number 2) k (drop 2 names) .0)) e
 
 -- ---- the step
@@ -103,7 +96,7 @@ module _ (p : StepPiece) (names : List ℕ) where
   unfolding placeBytes wroteBytes noteBytes stepBytes noteFrom stepFrom
   step-bytes = refl
 
-  pub step-stored : (s t u w x : List ℕ) (at count : ℕ) → count ≡ takenCount (p .note .taken) names → 2 + 2 * count ≤ length names → ((i : ℕ) → getD names i 0 < 256)
+  pub step-stored : (s t u w x : List ℕ) (at count : ℕ) → count ≡ takenCount (p .note .taken) names → 2 + 2 * count ≤ length names → ((i : ℕ) → Fits w8 (getD names i 0))
       → t ≡ sets s at (placeBytes (optional (p .located) (p .address)) (p .block) (p .statement))
       → u ≡ sets t (at + 17) (wroteBytes (wroteFields (optional (p .wrote) (p .name, p .value))))
       → w ≡ sets u (at + 34) (noteBytes (p .note .kind) (p .note .address) (p .note .count) (p .note .value))
@@ -116,10 +109,10 @@ module _ (p : StepPiece) (names : List ℕ) where
       let note = noteBytes (p .note .kind) (p .note .address) (p .note .count) (p .note .value) in
       two-stored (place ++ wrote ++ note) (namesBytes count names) s w x at (at + 61)
       (two-stored (place ++ wrote) note s u w at (at + 34) (two-stored place wrote s t u at (at + 17) a b refl) c refl) d refl
-      ∙ ap (λ (l : List ℕ). sets s at (fixed ++ l)) (names-bytes (p .note .taken) count names (each-byte names all) h e)
+      ∙ ap (λ (l : List ℕ). sets s at (fixed ++ l)) (names-bytes (p .note .taken) count names (each-byte names (λ i. all i .fits)) h e)
       ∙ ap (sets s at) step-bytes
 
   pub length-step : (count : ℕ) → count ≡ takenCount (p .note .taken) names → length (stepBytes (stepFrom p names)) ≡ 63 + 2 * count
   unfolding stepBytes noteFrom stepFrom takenNames
   length-step count e =
-      omega (arith, length-names (takenNames (p .note .taken) names), reads-count (takenCount (p .note .taken) names) (drop 2 names))
+      omega (arith, length-names (takenNames (p .note .taken) names), length-reads name (takenCount (p .note .taken) names) (drop 2 names))
