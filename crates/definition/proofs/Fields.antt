@@ -60,7 +60,7 @@ fields-fit callTo a h = lit< tt
 
 -- ---- read back
 
-bool-back : (b : Bool) → boolOf (flagOf b) ≡ b
+pub bool-back : (b : Bool) → boolOf (flagOf b) ≡ b
 bool-back false = refl
 bool-back true = refl
 

@@ -10,6 +10,7 @@ use Rattle.layout.specs.Format.{flagOf, boolOf}
 use Rattle.value.specs.declared.Ty.{Ty}
 use Rattle.spelling.specs.declared.Pointee.{Pointee}
 use Rattle.spelling.specs.declared.Pointee.the-variants.{Of, NoPointer}
+use Rattle.definition.proofs.Fields.{bool-back}
 use Rattle.workspace.specs.Types.{codeOf, typeOfCode, codeIf, typeIfCode, Coded, CodedIf}
 use Rattle.workspace.specs.Post.{pointedAt}
 use Rattle.value.proofs.EncodingLaws.{flag-read, flag-written}
@@ -19,10 +20,6 @@ use Rattle.value.proofs.EncodingLaws.{flag-read, flag-written}
 flag-most : (b : Bool) → flagOf b ≤ 1
 flag-most true = omega arith
 flag-most false = omega arith
-
-sign-back : (b : Bool) → boolOf (flagOf b) ≡ b
-sign-back true = refl
-sign-back false = refl
 
 pub byte-most : (b : Bool) → boolByte b ≤ 1
 byte-most b = omega (arith, flag-written b, flag-most b)
@@ -41,7 +38,7 @@ code-back t h =
     let f = flag-most (t .signed) in
     let b : (t .bits / 8 * 2 + flagOf (t .signed)) / 2 * 8 ≡ t .bits = omega (arith, f, h .whole) in
     let s : (t .bits / 8 * 2 + flagOf (t .signed)) % 2 ≡ flagOf (t .signed) = omega (arith, f) in
-    λ i. record { bits = b i; signed = _∙_ (ap boolOf s) (sign-back (t .signed)) i }
+    λ i. record { bits = b i; signed = _∙_ (ap boolOf s) (bool-back (t .signed)) i }
 
 pub some-code : (c : ℕ) → (c ≡ 0 → ⊥) → typeIfCode c ≡ some (typeOfCode c)
 unfolding typeIfCode

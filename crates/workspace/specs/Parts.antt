@@ -1,5 +1,5 @@
--- The parts of a lent workspace while a routine runs: what is written to memory, the variables, the pending note, then tables made once at the start.
--- Assumes nothing.
+-- The parts of a lent workspace while a routine runs: what is written to memory, the variables, the pending note, the registers, then tables made once at
+-- the start. Assumes nothing.
 use mathlib.Core.List.{List}
 use Prim.Native.Nat.{ℕ, _+_}
 use lib.ListN.{take, drop}

@@ -21,6 +21,9 @@ const NAME_LIMIT: usize = 512;
 // The bytes of a slot: whether it is set, the value, one that is unused.
 const SLOT: usize = 16;
 
+// The bytes of a variable in a record: its name and the value.
+const VARIABLE: usize = 16;
+
 pub enum Slot {
     Set(Val),
     Unset,
@@ -91,7 +94,7 @@ fn copy_variable(ws: &[u8], x: usize, out: &mut [u8], at: usize) -> usize
     match slot {
         Slot::Set(v) => {
             put_variable(out, at, x, v);
-            at + 16
+            at + VARIABLE
         }
         Slot::Unset => at,
     }
