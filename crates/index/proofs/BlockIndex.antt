@@ -1,14 +1,14 @@
 -- How the index of blocks grows, and what it tells. Assumes nothing.
 use mathlib.Core.Path.{_≡_, refl, sym, ap, subst, _∙_}
 use mathlib.Core.List.{List}
-use Prim.Native.Nat.{ℕ, _+_, _-_, _*_, _≤_, _<_}
+use Prim.Native.Nat.{ℕ, _+_, _*_, _≤_, _<_}
 use native.Mathlib.Numerals.{add-one}
 use native.Mathlib.Omega.{arith}
 use lib.ListN.{length}
 use Rattle.layout.specs.Number.{numberAt, putNumber}
 use Rattle.layout.proofs.NumberLaws.{numberAt-lt}
 use Rattle.index.specs.Places.{placeFrom, blockSize}
-use Rattle.index.specs.Blocks.{blockStart, firstFrom, blockFirst, BlockInside, Blocks, BlocksIndexed, Placed}
+use Rattle.index.specs.Blocks.{blocksRoom, blockStart, firstFrom, blockFirst, BlockInside, Blocks, BlocksIndexed, Placed}
 use Rattle.index.proofs.PlaceLaws.{place-next}
 use Rattle.index.proofs.EntryLaws.{Entries, length-put, entries-kept, entries-more}
 use Rattle.index.proofs.BlockPlaces.{first-suc, block-before}
@@ -28,7 +28,7 @@ pub record Filling (b part : List ℕ) (start first count : ℕ) : Type 0 where
   pub most : start ≤ length b
   pub few : count * 24 ≤ start
   pub low : first ≤ count * 65536
-  pub room : 10920 ≤ length part
+  pub room : blocksRoom ≤ length part
   pub starts : Entries part (λ k. k * 4) (λ k x. x ≡ blockStart b k) count
   pub firsts : Entries part (λ k. k * 4 + 2) (λ k x. x ≡ blockFirst b k) count
 
@@ -72,7 +72,7 @@ module _ {b part : List ℕ} {start first count : ℕ} (all : Blocks b) (so : Fi
     firsts = so .firsts;
   }
 
-pub blocks-none : {b part : List ℕ} → 10920 ≤ length part → Filling b part 0 0 0
+pub blocks-none : {b part : List ℕ} → blocksRoom ≤ length part → Filling b part 0 0 0
 unfolding blockStart blockFirst placeFrom firstFrom
 blocks-none room = record { here = refl; dealt = refl; most = omega arith; few = omega arith; low = omega arith; room = room; starts = λ k h. absurd (omega arith); firsts = λ k h. absurd (omega arith) }
 

@@ -57,10 +57,6 @@ reads-rest zero bs = refl
 reads-rest (suc n) [] = reads-rest n [] ∙ drop-nil n
 reads-rest (suc n) (x ∷ bs) = reads-rest n bs
 
-pub reads-length : (n : ℕ) (bs : List ℕ) → length (reads (number 1) n bs .0) ≡ n
-reads-length zero bs = refl
-reads-length (suc n) bs = ap suc (reads-length n (drop 1 bs))
-
 pub reads-bytes : (n : ℕ) (bs : List ℕ) → n ≤ length bs → Bytes bs → reads (number 1) n bs .0 ≡ take n bs
 reads-bytes zero bs h all = refl
 reads-bytes (suc n) [] h all = absurd (not-suc-le-zero h)

@@ -1,6 +1,6 @@
 -- The byte at an address, and the bytes from an address on, in the regions of an accepted body. Assumes nothing.
 use mathlib.Core.Path.{_≡_, refl, sym, ap, ap₂, _∙_}
-use mathlib.Core.Bool.{Bool, true, false, _&&_}
+use mathlib.Core.Bool.{Bool, true, false, _&&_, and-false}
 use mathlib.Core.List.{List, [], _∷_, _++_}
 use mathlib.Core.Option.{none, some}
 use mathlib.Core.Logic.{⊎-elim}
@@ -23,15 +23,11 @@ use Rattle.index.proofs.RegionPlaces.{its-start, its-length, its-bytes}
 abbrev has : Region → ℕ → Bool
 has r a = leb (r .0) a && ltb a (r .0 + length (r .1))
 
-and-no : (t : Bool) → (t && false) ≡ false
-and-no true = refl
-and-no false = refl
-
 has-not-yet : (r : Region) (a : ℕ) → a < r .0 → has r a ≡ false
 has-not-yet r a h = rw (lt-leb (r .0) a h)
 
 has-no-more : (r : Region) (a : ℕ) → r .0 + length (r .1) ≤ a → has r a ≡ false
-has-no-more r a h = rw (le-ltb a (r .0 + length (r .1)) h) (and-no (leb (r .0) a))
+has-no-more r a h = rw (le-ltb a (r .0 + length (r .1)) h) (and-false (leb (r .0) a))
 
 has-it : (r : Region) (a : ℕ) → r .0 ≤ a → a < r .0 + length (r .1) → has r a ≡ true
 has-it r a h g = rw (le-leb (r .0) a h, lt-ltb a (r .0 + length (r .1)) g)

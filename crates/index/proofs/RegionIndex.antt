@@ -13,7 +13,7 @@ use Rattle.layout.specs.Number.{numberAt, putNumber}
 use Rattle.layout.specs.Format.{whole}
 use Rattle.files.specs.World.{region, byteAt}
 use Rattle.index.specs.Places.{placeFrom, regionSize}
-use Rattle.index.specs.Regions.{regionCount, regionPlace, startAt, endAt, RegionInside, Regions, RegionsIndexed, Clear, From, Numbered, Located}
+use Rattle.index.specs.Regions.{regionsRoom, regionCount, regionPlace, startAt, endAt, RegionInside, Regions, RegionsIndexed, Clear, From, Numbered, Located}
 use Rattle.index.proofs.PlaceLaws.{place-order, place-next, place-strict}
 use Rattle.index.proofs.EntryLaws.{Entries, length-put, entries-more}
 use Rattle.index.proofs.RegionBytes.{ends-before, byte-none}
@@ -54,10 +54,10 @@ pub record Filling (b part : List ℕ) (at count : ℕ) : Type 0 where
   pub most : count ≤ regionCount b
   pub few : count * 13 ≤ at
   pub near : at ≤ length b
-  pub room : 2522 ≤ length part
+  pub room : regionsRoom ≤ length part
   pub entries : Entries part (λ k. k * 2) (λ k x. x ≡ regionPlace b (k * 4)) ((count + 3) / 4)
 
-pub regions-none : {b part : List ℕ} → 2522 ≤ length part → Filling b part 0 0
+pub regions-none : {b part : List ℕ} → regionsRoom ≤ length part → Filling b part 0 0
 unfolding regionPlace placeFrom
 regions-none room = record { here = refl; most = omega arith; few = omega arith; near = omega arith; room = room; entries = λ k h. absurd (omega arith) }
 

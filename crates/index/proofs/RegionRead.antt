@@ -29,9 +29,6 @@ module _ {b : List ℕ} {a i : ℕ} (all : Regions b) (at : Holding b a i) where
   pub held-inside : RegionInside b i
   held-inside = in-body all (at .here) (at .most)
 
-  pub held-numbered : Numbered b i
-  held-numbered = record { number = at .number; here = at .here; most = at .most }
-
   -- m of them from the address on, of the rest that the region has
   held-bytes : (m n : ℕ) → Bytes b → a + m ≤ endAt b i
       → bytesFrom (whole region b) (m + n) a ≡ le m (numberAt b (i + 12 + (a - startAt b i)) m) ++ bytesFrom (whole region b) n (a + m)
@@ -56,9 +53,6 @@ module _ {b : List ℕ} {a i : ℕ} (all : Regions b) (at : Holding b a i) where
 
 module _ {b : List ℕ} {a n i : ℕ} {image : Image} (all : Regions b) (at : Holding b (a + image .count) i) (so : Gathered b a n image) (few : n ≤ 8) where
   module _ {s len m : ℕ} (e : s ≡ numberAt b i 8) (g : LengthOf b i len) (em : m ≡ min (n - image .count) (len - (a + image .count - s))) where
-    pub more-inside : (i + 12 + (a + image .count - s) + m ≤ length b) × (m ≤ 8)
-    more-inside = (omega (arith, at .low, at .high, e, g .is, g .inside, em), omega (arith, em, few))
-
     module _ {x : ℕ} (ex : x ≡ numberAt b (i + 12 + (a + image .count - s)) m) where
       small : x < 256 ^ m
       small = rw ex (numberAt-lt b (i + 12 + (a + image .count - s)) m)
@@ -147,5 +141,9 @@ reading-none {b} {a} {n} {at} h = record { gathered = gathered-none; located = s
 pub reading-held : {b : List ℕ} {a n at : ℕ} {image : Image} → Reading b a n image at → at < length b → Holding b (a + image .count) at
 reading-held so h = so .located .found h
 
-pub reading-more : {b : List ℕ} {a n x at : ℕ} {image : Image} → n ≤ 8 → Gathered b a n image → (image .count ≡ n → ⊥) → a + image .count ≡ x → Located b x at → Reading b a n image at
-reading-more {b} {a} {n} {x} {at} {image} few so z e h = record { gathered = so; located = subst (λ (y : ℕ). Located b y at) (sym e) h; low = omega (arith, so .most, z) }
+pub reading-numbered : {b : List ℕ} {a n at : ℕ} {image : Image} → Reading b a n image at → at < length b → Numbered b at
+reading-numbered so h = let r = reading-held so h in record { number = r .number; here = r .here; most = r .most }
+
+pub reading-more : {b : List ℕ} {a n x at : ℕ} {image : Image} → n ≤ 8 → Gathered b a n image → (image .count ≡ n → ⊥) → ((image .count ≡ n → ⊥) → a + image .count ≡ x)
+    → Located b x at → Reading b a n image at
+reading-more {b} {a} {n} {x} {at} {image} few so z e h = record { gathered = so; located = subst (λ (y : ℕ). Located b y at) (sym (e z)) h; low = omega (arith, so .most, z) }

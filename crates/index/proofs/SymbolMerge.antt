@@ -1,7 +1,7 @@
 -- How the index of symbols grows, name by name of the routine. Assumes nothing.
 use mathlib.Core.Path.{_≡_, refl, sym, ap, subst, _∙_}
 use mathlib.Core.List.{List, []}
-use Prim.Native.Nat.{ℕ, _+_, _-_, _*_, _≤_, _<_}
+use Prim.Native.Nat.{ℕ, _+_, _*_, _≤_, _<_}
 use native.Mathlib.Nat.{le-antisymm, lt-of-not-le, le-of-suc-le-suc}
 use native.Mathlib.Omega.{arith}
 use mir.Syntax.{w8}
@@ -14,7 +14,7 @@ use Rattle.files.specs.Program.{textsIn}
 use Rattle.index.specs.declared.symbols.Cursor.{Cursor}
 use Rattle.index.specs.Places.{placeFrom, textSize}
 use Rattle.index.specs.Texts.{textCount, Texts, TextAt}
-use Rattle.index.specs.Symbols.{symbolNamed, entrySymbol, SymbolsIndexed, Symbols, nameOf, Passed, Standing, Sought}
+use Rattle.index.specs.Symbols.{symbolsRoom, symbolNamed, entrySymbol, SymbolsIndexed, Symbols, nameOf, Passed, Standing, Sought}
 use Rattle.index.proofs.PlaceLaws.{place-order, place-next, place-strict}
 use Rattle.index.proofs.EntryLaws.{Entries, length-put, entries-more}
 use Rattle.index.proofs.TextPlaces.{text-some, text-inside, names-texts}
@@ -30,12 +30,12 @@ pub record Merging (R W S part : List ℕ) (cursor : Cursor) (at count : ℕ) : 
   pub here : at ≡ placeFrom (textSize R) 0 count
   pub most : count ≤ textCount R
   pub few : count ≤ 512
-  pub room : 1024 ≤ length part
+  pub room : symbolsRoom ≤ length part
   pub standing : Standing W S (cursor .symbol) (cursor .name) (cursor .at)
   pub passed : (m : ℕ) → count ≤ m → m < textCount R → Passed W S (cursor .symbol) (getD (textsIn R) m [])
   pub entries : Entries part (λ k. k * 2) (Entry R W S) count
 
-pub merge-none : {R W S part : List ℕ} → 1024 ≤ length part → Merging R W S part (record { symbol = 0; name = 0; at = 0; entry = 0 }) 0 0
+pub merge-none : {R W S part : List ℕ} → symbolsRoom ≤ length part → Merging R W S part (record { symbol = 0; name = 0; at = 0; entry = 0 }) 0 0
 unfolding placeFrom
 merge-none room = record {
   here = refl;

@@ -12,7 +12,7 @@ use Rattle.layout.specs.Number.{numberAt, putNumber}
 use Rattle.layout.proofs.StoreLaws.{each-byte}
 use Rattle.files.specs.Program.{textsIn}
 use Rattle.index.specs.Places.{placeFrom, textSize}
-use Rattle.index.specs.Texts.{textCount, Texts, TextsIndexed, TextAt}
+use Rattle.index.specs.Texts.{textsRoom, textCount, Texts, TextsIndexed, TextAt}
 use Rattle.index.proofs.PlaceLaws.{place-order, place-mono, place-strict, place-next}
 use Rattle.index.proofs.EntryLaws.{Entries, length-put, entries-more}
 use Rattle.index.proofs.TextPlaces.{text-some, text-inside, text-bytes}
@@ -21,7 +21,7 @@ use Rattle.index.proofs.TextPlaces.{text-some, text-inside, text-bytes}
 pub record Filling (b part : List ℕ) (at count : ℕ) : Type 0 where
   pub here : at ≡ placeFrom (textSize b) 0 count
   pub most : count ≤ textCount b
-  pub room : 1024 ≤ length part
+  pub room : textsRoom ≤ length part
   pub entries : Entries part (λ k. k * 2) (λ k x. x ≡ placeFrom (textSize b) 0 k) count
 
 module _ {b part : List ℕ} {at count : ℕ} (all : Texts b) (so : Filling b part at count) where
@@ -51,7 +51,7 @@ module _ {b part : List ℕ} {at count : ℕ} (all : Texts b) (so : Filling b pa
       let n : count ≡ textCount b = le-antisymm (so .most) (le-of-suc-le-suc (lt-of-not-le (λ l. omega (arith, place-strict (textSize b) (text-some b) 0 count (textCount b) l, all .full, so .here)))) in
       (n, record { texts = all; room = omega (arith, all .few, so .room); at = rw n at (so .entries) })
 
-pub texts-none : {b part : List ℕ} → 1024 ≤ length part → Filling b part 0 0
+pub texts-none : {b part : List ℕ} → textsRoom ≤ length part → Filling b part 0 0
 unfolding placeFrom
 texts-none room = record { here = refl; most = omega arith; room = room; entries = λ k h. absurd (omega arith) }
 

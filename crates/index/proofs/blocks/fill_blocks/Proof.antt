@@ -49,13 +49,7 @@ loop-less : tie.Need-loop-less Inv-loop μ-loop
 loop-less c = search needs
 
 loop-again : tie.Need-loop-again Inv-loop μ-loop
-loop-again c =
-    let p = c .before .before .before .before .before .before in
-    let l = p .before .before .before .before .before in (
-      block-filled (l .before .before .before .pre .0) (l .loop .inv .0) (p .before .before .before .before .loop-test .taken) (p .put16 .ensures) (c .before .before .put162 .ensures)
-          (p .before .before .before .statement-count .ensures .0) (p .before .before .block-size .ensures .0),
-      search needs,
-    )
+loop-again c = (search (needs, block-filled), search needs)
 
 same-length : tie.Need-same-length Inv-loop μ-loop
 same-length c = search needs

@@ -1,4 +1,3 @@
-use native.Mathlib.Omega.{arith}
 use Rattle.index.proofs.RegionRead.{held-inside, sum-fits, gathered-more, gathered-end}
 use borrow.Author.Needs.{needs}
 use Rattle.index.proofs.regions.gather.Statement.{statement}
@@ -44,19 +43,10 @@ shl-t11 : tie.Need-shl-t11
 shl-t11 c = search needs
 
 add-t16 : tie.Need-add-t16
-add-t16 c =
-    let f = c .before .before .before .before in
-    let s = f .before .before .before .before .before in
-    omega (arith, sum-fits (s .pre .0 .0) (s .pre .0 .1) (s .pre .1 .0) (s .pre .1 .1 .0) (f .before .before .before .start-of .ensures) (f .before .before .length-of .ensures) (f .smaller .ensures) (c .before .before .before .number-at .ensures))
+add-t16 c = search (needs, sum-fits)
 
 returns : tie.Need-returns
-returns c =
-    let f = c .before .before .before .before in
-    let s = f .before .before .before .before .before in
-    let x = c .before .before .before .number-at .ensures in (
-      gathered-more (s .pre .0 .0) (s .pre .0 .1) (s .pre .1 .0) (s .pre .1 .1 .0) (f .before .before .before .start-of .ensures) (f .before .before .length-of .ensures) (f .smaller .ensures) x (f .before .before .before .before .shared-slice-known .given),
-      gathered-end (s .pre .0 .0) (s .pre .0 .1) (s .pre .1 .0) (s .pre .1 .1 .0) (f .before .before .before .start-of .ensures) (f .before .before .length-of .ensures) (f .smaller .ensures) x,
-    )
+returns c = (search (needs, gathered-more), search (needs, gathered-end))
 
 pub gather-spec : {M : Type 1} → statement M
 gather-spec =

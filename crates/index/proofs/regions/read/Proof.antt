@@ -2,7 +2,7 @@
 use Prim.Native.Nat.{_-_}
 use lib.ListN.{length}
 use borrow.Author.Needs.{needs}
-use Rattle.index.proofs.RegionRead.{Reading, read-none, reading-none, reading-held, held-numbered, read-all, reading-more, read-end}
+use Rattle.index.proofs.RegionRead.{Reading, read-none, reading-none, reading-held, reading-numbered, read-all, reading-more, read-end}
 use Rattle.index.proofs.regions.read.Statement.{statement}
 use Rattle.index.proofs.regions.read.Tie as tie
 
@@ -31,19 +31,13 @@ returns-2 : tie.Need-returns-2 Inv-loop μ-loop
 returns-2 c = search (needs, read-all)
 
 touching-requires : tie.Need-touching-requires Inv-loop μ-loop
-touching-requires c κs =
-    let l = c .before .before .before .before in
-    let regions = l .before .before .before .before .before .before .pre .0 .regions in
-    (regions, held-numbered regions (reading-held (l .loop .inv) (c .before .before .before .loop-test .taken)))
+touching-requires c κs = (search needs, search (needs, reading-numbered))
 
 loop-less : tie.Need-loop-less Inv-loop μ-loop
 loop-less c = search needs
 
 loop-again : tie.Need-loop-again Inv-loop μ-loop
-loop-again c =
-    let g = c .before .before .before in
-    let s = g .before .before .before .before .before .before in
-    reading-more (s .before .before .pre .1) (g .gather .ensures .0) (c .before .if2 .left) (g .gather .ensures .1 (c .before .if2 .left)) (c .touching .ensures .0)
+loop-again c = search (needs, reading-more)
 
 returns-3 : tie.Need-returns-3 Inv-loop μ-loop
 returns-3 c = search (needs, read-end)
