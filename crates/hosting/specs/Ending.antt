@@ -1,5 +1,4 @@
 -- How the code's results read: with what an evaluation ended, or why it ended short. Assumes nothing.
-use mathlib.Core.Bool.{Bool, true, false}
 use mathlib.Core.Option.{Option, none, some}
 use Prim.Native.Nat.{ℕ, zero, suc}
 use Rattle.value.specs.declared.Val.{Val}
@@ -8,6 +7,7 @@ use Rattle.value.specs.declared.Answer.the-variants.{Value, DivisionByZero}
 use Rattle.definition.specs.Act.{Why, branchUnknown, switchUnknown, noCase, structTo, unknownAddress, unknownValue, noWidth, storeTo, byZero}
 use Rattle.definition.specs.Act as act
 use Rattle.definition.specs.Evaluate as ev
+use Rattle.stream.specs.Pieces.{optional}
 use Rattle.hosting.specs.declared.Short.{Short}
 use Rattle.hosting.specs.declared.Outcome.{Outcome}
 use Rattle.hosting.specs.declared.Outcome.the-variants.{Is, Ends}
@@ -52,12 +52,8 @@ noteOf (Fields a n) = act.fieldsWritten a n
 noteOf (Written a v) = act.valueWritten a v
 noteOf Unknown = act.resultUnknown
 
-abbrev pub wroteOf : Bool → ℕ → Val → Option (ℕ × Val)
-wroteOf true x v = some (x, v)
-wroteOf false x v = none
-
 abbrev pub didOf : Did → ev.Did
-didOf d = record { wrote = wroteOf (d .wrote) (d .name) (d .value); note = noteOf (d .note) }
+didOf d = record { wrote = optional (d .wrote) (d .name, d .value); note = noteOf (d .note) }
 
 abbrev pub doneOf : Done → Ending ev.Did
 doneOf (Does d) = ended (didOf d)

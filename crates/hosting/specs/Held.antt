@@ -24,20 +24,16 @@ pub record Held : Type 0 where
 unfoldable pub held : List ℕ → List ℕ → Counts → Held
 held w o a = record { view = view w (a .stored); out = o; tally = a .tally }
 
--- the counts with another cursor of the questions, and with another number of entries
-abbrev pub withAsked : ℕ → Counts → Counts
-withAsked cursor a = record {
-  stored = a .stored;
-  tally = record { recorded = a .tally .recorded; asked = cursor; left = a .tally .left; entered = a .tally .entered; steps = a .tally .steps };
-}
-
-abbrev pub withStored : ℕ → Counts → Counts
-withStored n a = record { stored = n; tally = a .tally }
-
--- ---- the streams: in the second pass the questions are written, in the first the steps
+-- ---- counts: with another cursor of the questions, with another number of entries, after a step of n bytes, after a unit is paid
 
 abbrev pub askedTally : ℕ → Tally → Tally
 askedTally cursor t = record { recorded = t .recorded; asked = cursor; left = t .left; entered = t .entered; steps = t .steps }
+
+abbrev pub withAsked : ℕ → Counts → Counts
+withAsked cursor a = record { stored = a .stored; tally = askedTally cursor (a .tally) }
+
+abbrev pub withStored : ℕ → Counts → Counts
+withStored n a = record { stored = n; tally = a .tally }
 
 abbrev pub stepTally : Tally → ℕ → Tally
 stepTally t n = record { recorded = advanced (t .recorded) n; asked = t .asked; left = t .left; entered = t .entered; steps = t .steps }
@@ -46,6 +42,8 @@ abbrev pub paidTally : (left : ℕ) → (block : Bool) → Tally → Tally
 paidTally zero b t = t
 paidTally (suc n) true t = record { recorded = t .recorded; asked = t .asked; left = n; entered = suc (t .entered); steps = t .steps }
 paidTally (suc n) false t = record { recorded = t .recorded; asked = t .asked; left = n; entered = t .entered; steps = suc (t .steps) }
+
+-- ---- the streams: in the second pass the questions are written, in the first the steps
 
 unfoldable pub asked : Bool → Entry → Held → Held
 asked second e s = record {

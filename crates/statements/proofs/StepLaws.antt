@@ -24,13 +24,13 @@ use Rattle.workspace.specs.Note.{names, namesBytes, pendingIn, noted, taken, Fe
 use Rattle.stream.specs.declared.NotePiece.{NotePiece}
 use Rattle.stream.specs.declared.StepPiece.{StepPiece}
 use Rattle.stream.specs.Stream.{Sent}
-use Rattle.stream.specs.Pieces.{optional, takenCount, takenNames, stepBytes, noteFrom, stepFrom}
+use Rattle.stream.specs.Pieces.{takenCount, takenNames, stepBytes, noteFrom, stepFrom}
 use Rattle.stream.proofs.FieldLaws.{noting, note-none, note-fields, note-value, note-unknown, note-followed, note-taken, step-sent, taken-back}
 use Rattle.stream.proofs.StepLaws.{length-names}
 use Rattle.hosting.specs.declared.Note.{Note}
 use Rattle.hosting.specs.declared.Note.the-variants.{Nothing, Fields, Written, Unknown}
 use Rattle.hosting.specs.declared.Did.{Did}
-use Rattle.hosting.specs.Ending.{noteOf, wroteOf, didOf}
+use Rattle.hosting.specs.Ending.{noteOf, didOf}
 use Rattle.statements.specs.declared.steps.Site.{Site}
 use Rattle.statements.specs.Steps.{OwnNote, leftPiece, takesNote, pieceOf, stepAs}
 use Rattle.statements.proofs.StopLaws.{flagged}
@@ -114,17 +114,13 @@ left-fields xs count e l h = go (eqb count 0) refl ∙ ap (λ (ys : List ℕ). n
 
 -- ---- the step
 
-wrote-told : (wrote : Bool) (x : ℕ) (v : Val) → optional wrote (x, v) ≡ wroteOf wrote x v
-wrote-told true x v = refl
-wrote-told false x v = refl
-
 -- a piece with a note has the step's fields where the note has
 sent-with : {on : Bool} {out out′ : List ℕ} {at r : ℕ} (site : Site) (did : Did) (n : NotePiece) (names : List ℕ) (p : Pending)
     → noteFrom n names ≡ noteFields (statements.noteOf (noteOf (did .note)) p) → Sent on out at (stepBytes (stepFrom (pieceOf site did n) names)) out′ r
     → Sent on out at (stepBytes (stepFields (stepAs site (didOf did) p))) out′ r
 unfolding pieceOf
 sent-with site did n names p e s =
-    step-sent (pieceOf site did n) names (stepAs site (didOf did) p) s (flagged (site .address)) refl refl (wrote-told (did .wrote) (did .name) (did .value)) e
+    step-sent (pieceOf site did n) names (stepAs site (didOf did) p) s (flagged (site .address)) refl refl refl e
 
 module _ {on : Bool} {out out′ : List ℕ} {at r : ℕ} (names : List ℕ) (site : Site) (did : Did) (s : StepPiece) {n : NotePiece} {b : Bool} (p : Pending)
     (takes : b ≡ takesNote (did .note) p) (made : s ≡ pieceOf site did n) where
