@@ -169,11 +169,6 @@ block-before b n k full h = omega (arith, place-strict (blockSize b) (block-one 
 -- ---- lists of things in order
 
 module _ {A : Type 0} (f : ℕ → A) where
-  pub listed-length : (i n : ℕ) → length (listed f i n) ≡ n
-  unfolding listed
-  listed-length i zero = refl
-  listed-length i (suc n) = ap suc (listed-length (suc i) n)
-
   pub listed-at : (i n k : ℕ) → k < n → getElem? (listed f i n) k ≡ some (f (i + k))
   unfolding listed
   listed-at i zero k h = absurd (not-suc-le-zero h)

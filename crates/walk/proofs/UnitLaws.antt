@@ -12,13 +12,13 @@ use lib.ListN.{length, getD}
 use Rattle.layout.specs.Number.{numberAt}
 use Rattle.layout.proofs.NumberLaws.{numberAt-lt}
 use Rattle.files.specs.Program.{Program, treeAt, statementAt}
+use Rattle.files.proofs.ListedLaws.{length-listed}
 use Rattle.definition.specs.Act.{Act, done, _>>=_}
 use Rattle.definition.specs.Evaluate.{Env}
 use Rattle.definition.specs.Statements as statements
 use Rattle.definition.specs.Walk as walk
 use Rattle.index.specs.declared.blocks.Place.{Place}
 use Rattle.index.specs.Blocks.{Placed}
-use Rattle.index.proofs.BlockPlaces.{listed-length}
 use Rattle.workspace.specs.Parts.{tables}
 use Rattle.hosting.specs.declared.Counts.{Counts}
 use Rattle.hosting.specs.declared.Tally.{Tally}
@@ -51,7 +51,7 @@ use Rattle.walk.specs.Post.{Stays, Settles, runAct, RunsAt, aheadOf, uni
 
 -- so many statements are in a block
 block-length : (nodes ss blocks : List ℕ) (p : Place) → length (blockOf nodes ss blocks p .statements) ≡ numberAt blocks (p .start) 2
-block-length nodes ss blocks p = listed-length (statementAt nodes ss) (p .first) (numberAt blocks (p .start) 2)
+block-length nodes ss blocks p = length-listed (statementAt nodes ss) (p .first) (numberAt blocks (p .start) 2)
 
 settle-by : (E : Env) (nodes ss blocks : List ℕ) (p : Place) (b k : ℕ) (t : Bool) → ltb k (numberAt blocks (p .start) 2) ≡ t
     → walk.settle E b (blockOf nodes ss blocks p) k
