@@ -70,16 +70,16 @@ module _ (routine world call : List ℕ) (buffer workspace : ℕ) where
 
   pub from-input : (n : ℕ) → refusal routine world call ≡ suc n → verdict routine world call buffer workspace ≡ refused (suc n)
   unfolding verdict
-  from-input n e = ap (λ (m : ℕ). tests m (ltb workspace workspaceNeeded) runState) e
+  from-input n e = rw (e, verdict)
 
   module _ (ok : refusal routine world call ≡ 0) where
     pub small-workspace : workspace < workspaceNeeded → verdict routine world call buffer workspace ≡ refused 20
     unfolding verdict
-    small-workspace h = ap₂ (λ (m : ℕ) (b : Bool). tests m b runState) ok (lt-ltb workspace workspaceNeeded h)
+    small-workspace h = rw (ok, lt-ltb workspace workspaceNeeded h, verdict)
 
     pub from-state : workspaceNeeded ≤ workspace → verdict routine world call buffer workspace ≡ runState
     unfolding verdict
-    from-state h = ap₂ (λ (m : ℕ) (b : Bool). tests m b runState) ok (le-ltb workspace workspaceNeeded h)
+    from-state h = rw (ok, le-ltb workspace workspaceNeeded h, verdict)
 
   -- an accepted run's files are accepted, its workspace is long enough, and its memory and record fit
   pub record AcceptedRun : Type 0 where
@@ -102,13 +102,13 @@ module _ (routine : List ℕ) (node workspace : ℕ) where
 
   pub constant-from-input : (n : ℕ) → constantRefusal routine node ≡ suc n → constantVerdict routine node workspace ≡ refused (suc n)
   unfolding constantVerdict
-  constant-from-input n e = ap (λ (m : ℕ). tests m (ltb workspace workspaceNeeded) constantState) e
+  constant-from-input n e = rw (e, constantVerdict)
 
   module _ (ok : constantRefusal routine node ≡ 0) where
     pub constant-small-workspace : workspace < workspaceNeeded → constantVerdict routine node workspace ≡ refused 20
     unfolding constantVerdict
-    constant-small-workspace h = ap₂ (λ (m : ℕ) (b : Bool). tests m b constantState) ok (lt-ltb workspace workspaceNeeded h)
+    constant-small-workspace h = rw (ok, lt-ltb workspace workspaceNeeded h, constantVerdict)
 
     pub constant-from-state : workspaceNeeded ≤ workspace → constantVerdict routine node workspace ≡ constantState
     unfolding constantVerdict
-    constant-from-state h = ap₂ (λ (m : ℕ) (b : Bool). tests m b constantState) ok (le-ltb workspace workspaceNeeded h)
+    constant-from-state h = rw (ok, le-ltb workspace workspaceNeeded h, constantVerdict)
