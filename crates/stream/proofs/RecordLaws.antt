@@ -87,9 +87,6 @@ module _ (r : Ran) where
     abbrev head : List ℕ
     head = pairs 48 (bodies r)
 
-    length-head : length head ≡ 48
-    length-head = refl
-
     -- in the order of the run
     abbrev inOrder : List ℕ
     inOrder = sets (sets (sets (sets (sets (sets (sets old 99 steps) q questions) 48 stop) 87 counts) v variables) m memory) 0 head
