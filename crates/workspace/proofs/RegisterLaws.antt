@@ -13,7 +13,7 @@ use Rattle.value.specs.declared.Val.{Val}
 use Rattle.memory.proofs.OverlayLaws.{below, equal, above, compared}
 use Rattle.workspace.specs.Parts.{workspaceSize, memorySize, framePlace, frameSize, notePlace, noteSize, registersPlace, registersSize, tablesPlace, memoryPart, framePart, notePart, registersPart, tables}
 use Rattle.value.specs.Encoding.{valBytes, valAt, Whole}
-use Rattle.workspace.specs.Registers.{wordCount, wordAt, valueAt}
+use Rattle.workspace.specs.Registers.{wordCount, valuesPlace, wordAt, valueAt}
 use Rattle.workspace.specs.View.{view}
 use Rattle.workspace.specs.Post.{Aside, SetsWord, SetsValue}
 use Rattle.workspace.proofs.PartLaws.{part-part, part-sets, part-above, part-below, number-part, number-stored, number-above, number-below}
@@ -30,12 +30,12 @@ pub word-read : (w : List ℕ) (k x : ℕ) → k < wordCount → x ≡ numberAt 
 unfolding wordAt registersPart
 word-read w k x h e = e ∙ sym (number-part w registersPlace registersSize (k * 8) 8 (omega arith))
 
-pub value-read : (w : List ℕ) (k : ℕ) (v : Val) → k < 2 → v ≡ valAt w (registersPlace + 112 + k * 16) → v ≡ valueAt (registersPart w) k
+pub value-read : (w : List ℕ) (k : ℕ) (v : Val) → k < 2 → v ≡ valAt w (registersPlace + valuesPlace + k * 16) → v ≡ valueAt (registersPart w) k
 unfolding valueAt registersPart
 value-read w k v h e =
-    let i : registersPlace + 112 + k * 16 ≡ registersPlace + (112 + k * 16) = omega arith in
+    let i : registersPlace + valuesPlace + k * 16 ≡ registersPlace + (valuesPlace + k * 16) = omega arith in
     e ∙ ap (valAt w) i
-    ∙ sym (val-same (registersPart w) w (112 + k * 16) (registersPlace + (112 + k * 16)) (part-part registersPlace registersSize (112 + k * 16) 14 w (omega arith)))
+    ∙ sym (val-same (registersPart w) w (valuesPlace + k * 16) (registersPlace + (valuesPlace + k * 16)) (part-part registersPlace registersSize (valuesPlace + k * 16) 14 w (omega arith)))
 
 -- ---- bytes stored among the registers
 
@@ -48,13 +48,13 @@ module _ (r vs : List ℕ) (i j : ℕ) where
   unfolding wordAt
   word-below h = number-below r vs i (j * 8) 8 h
 
-  value-above : 112 + j * 16 + 14 ≤ i → valueAt (sets r i vs) j ≡ valueAt r j
+  value-above : valuesPlace + j * 16 + 14 ≤ i → valueAt (sets r i vs) j ≡ valueAt r j
   unfolding valueAt
-  value-above h = val-same (sets r i vs) r (112 + j * 16) (112 + j * 16) (part-above (112 + j * 16) 14 i r vs h)
+  value-above h = val-same (sets r i vs) r (valuesPlace + j * 16) (valuesPlace + j * 16) (part-above (valuesPlace + j * 16) 14 i r vs h)
 
-  value-below : i + length vs ≤ 112 + j * 16 → valueAt (sets r i vs) j ≡ valueAt r j
+  value-below : i + length vs ≤ valuesPlace + j * 16 → valueAt (sets r i vs) j ≡ valueAt r j
   unfolding valueAt
-  value-below h = val-same (sets r i vs) r (112 + j * 16) (112 + j * 16) (part-below (112 + j * 16) 14 i r vs h)
+  value-below h = val-same (sets r i vs) r (valuesPlace + j * 16) (valuesPlace + j * 16) (part-below (valuesPlace + j * 16) 14 i r vs h)
 
 -- ---- a word is set
 
@@ -78,18 +78,18 @@ module _ (r : List ℕ) (k x : ℕ) (room : registersSize ≤ length r) (few : k
 -- ---- a value is set
 
 module _ (r : List ℕ) (k : ℕ) (v : Val) (room : registersSize ≤ length r) (few : k < 2) (whole : Whole v) where
-  value-here : valueAt (sets r (112 + k * 16) (valBytes v)) k ≡ v
+  value-here : valueAt (sets r (valuesPlace + k * 16) (valBytes v)) k ≡ v
   unfolding valueAt
   value-here =
       let l = length-valBytes v in
-      ap (valAt (sets r (112 + k * 16) (valBytes v))) (sym (add-zero (112 + k * 16)))
-      ∙ val-stored r (valBytes v) (112 + k * 16) 0 v (omega (arith, l)) (omega (arith, l)) (take-all 14 (valBytes v) (omega (arith, l))) whole
+      ap (valAt (sets r (valuesPlace + k * 16) (valBytes v))) (sym (add-zero (valuesPlace + k * 16)))
+      ∙ val-stored r (valBytes v) (valuesPlace + k * 16) 0 v (omega (arith, l)) (omega (arith, l)) (take-all 14 (valBytes v) (omega (arith, l))) whole
 
-  value-else : (j : ℕ) → (j ≡ k → ⊥) → valueAt (sets r (112 + k * 16) (valBytes v)) j ≡ valueAt r j
+  value-else : (j : ℕ) → (j ≡ k → ⊥) → valueAt (sets r (valuesPlace + k * 16) (valBytes v)) j ≡ valueAt r j
   value-else j d = elim (compared j k) [
-    | below h e ↦ value-above r (valBytes v) (112 + k * 16) j (omega arith)
+    | below h e ↦ value-above r (valBytes v) (valuesPlace + k * 16) j (omega arith)
     | equal h e ↦ absurd (d h)
-    | above h e ↦ value-below r (valBytes v) (112 + k * 16) j (omega (arith, length-valBytes v))
+    | above h e ↦ value-below r (valBytes v) (valuesPlace + k * 16) j (omega (arith, length-valBytes v))
   ]
 
 -- ---- stored in the workspace: the other parts are as they were
@@ -130,16 +130,16 @@ word-set w w′ k x room few fits e =
       values = λ j h. rw s (value-below r (le 8 x) (k * 8) j (omega (arith, length-le 8 x)));
     })
 
-pub value-set : (w w′ : List ℕ) (k : ℕ) (v : Val) → workspaceSize ≤ length w → k < 2 → Whole v → w′ ≡ sets w (registersPlace + 112 + k * 16) (valBytes v) → SetsValue w k v w′
+pub value-set : (w w′ : List ℕ) (k : ℕ) (v : Val) → workspaceSize ≤ length w → k < 2 → Whole v → w′ ≡ sets w (registersPlace + valuesPlace + k * 16) (valBytes v) → SetsValue w k v w′
 value-set w w′ k v room few whole e =
     let r = registersPart w in
-    let i : registersPlace + 112 + k * 16 ≡ registersPlace + (112 + k * 16) = omega arith in
+    let i : registersPlace + valuesPlace + k * 16 ≡ registersPlace + (valuesPlace + k * 16) = omega arith in
     let l : registersSize ≤ length r = omega (arith, length-registers w room) in
-    let b : 112 + k * 16 + length (valBytes v) ≤ registersSize = omega (arith, length-valBytes v) in
-    let s = registers-stored w (valBytes v) (112 + k * 16) room b in
+    let b : valuesPlace + k * 16 + length (valBytes v) ≤ registersSize = omega (arith, length-valBytes v) in
+    let s = registers-stored w (valBytes v) (valuesPlace + k * 16) room b in
     rw (e ∙ ap (λ (n : ℕ). sets w n (valBytes v)) i) (record {
-      aside = aside-stored w (valBytes v) (112 + k * 16) room b;
+      aside = aside-stored w (valBytes v) (valuesPlace + k * 16) room b;
       here = rw s (value-here r k v l few whole);
-      words = λ j h. rw s (word-above r (valBytes v) (112 + k * 16) j (omega arith));
+      words = λ j h. rw s (word-above r (valBytes v) (valuesPlace + k * 16) j (omega arith));
       values = λ j h d. rw s (value-else r k v l few whole j d);
     })

@@ -4,10 +4,11 @@ use mathlib.Core.List.{List}
 use Prim.Native.Nat.{ℕ, _+_}
 use lib.ListN.{take, drop}
 use Rattle.memory.specs.Entries.{partSize}
+use Rattle.definition.specs.Run.{workspaceNeeded}
 
--- "workspace under 65,536 bytes" is refused
+-- a shorter workspace is refused
 abbrev pub workspaceSize : ℕ
-workspaceSize = 65536
+workspaceSize = workspaceNeeded
 
 -- so many elements from an index on
 abbrev pub part : {A : Type 0} → ℕ → ℕ → List A → List A

@@ -1,4 +1,4 @@
--- What the functions on a workspace give and ensure.
+-- What the functions on a workspace give and ensure. Assumes nothing.
 use mathlib.Core.Path.{_≡_}
 use mathlib.Core.List.{List}
 use mathlib.Core.Option.{Option, none, some}
@@ -97,7 +97,7 @@ pub record Fills (w x y z w′ : List ℕ) : Type 0 where
   pub regions : regionsPart (tables w′) ≡ y
   pub blocks : blocksPart (tables w′) ≡ z
 
--- a workspace that is zero throughout
+-- what a workspace that is zero throughout holds
 pub record Cleared (w : List ℕ) : Type 0 where
   pub holds : view w 0 ≡ fresh
   pub fit : Fit w 0

@@ -8,9 +8,13 @@ use Rattle.value.specs.Encoding.{valAt}
 abbrev pub wordCount : ℕ
 wordCount = 14
 
+-- where the values stand, behind the words
+abbrev pub valuesPlace : ℕ
+valuesPlace = wordCount * 8
+
 -- of the registers' part r
 unfoldable pub wordAt : List ℕ → ℕ → ℕ
 wordAt r k = numberAt r (k * 8) 8
 
 unfoldable pub valueAt : List ℕ → ℕ → Val
-valueAt r k = valAt r (112 + k * 16)
+valueAt r k = valAt r (valuesPlace + k * 16)
