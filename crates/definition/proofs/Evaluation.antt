@@ -19,6 +19,7 @@ use Rattle.definition.specs.Term.{Term, term, Terms, noTerms, moreTerms,
 use Rattle.definition.specs.Evaluate.{Env, answered, numberIn, widthIn, readVariable, writeVariable, pointeeOf, pointer, storeFields, assignStruct, assignVal, assign, takenBy, takeAll, followed, call, addressVal, evalAs, look, looks, execute}
 use Rattle.definition.proofs.Every.{Any, Every, every-bind, every-done, every-fail, every-ask, every-act, every-if, every-option}
 
+-- every operation but taking a unit and recording a step
 abbrev pub Inner : Op → Type 0
 Inner (peekOp a) = Unit
 Inner (pokeOp a c) = Unit
@@ -29,6 +30,7 @@ Inner (leaveOp p) = Unit
 Inner (spendOp b) = ⊥
 Inner (emitOp e) = ⊥
 
+-- a tree of such operations alone, however it ends
 abbrev pub Quiet : {A : Type 0} → Act A → Type 0
 Quiet t = Every Inner Any Any t
 

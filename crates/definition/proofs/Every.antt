@@ -12,6 +12,7 @@ Any a = Unit
 abbrev pub None : {A : Type 0} → A → Type 0
 None a = ⊥
 
+-- of a reason for which it ended short, or of what it gave
 abbrev pub EndIs : {A : Type 0} → (Why → Type 0) → (A → Type 0) → End A → Type 0
 EndIs F Q (gave a) = Q a
 EndIs F Q (stopped x) = F x

@@ -82,6 +82,7 @@ grows-then h second f (gave a) s = grows h second (f a) s
 grows-then h second f (stopped y) s = le-refl _
 
 module _ {A B : Type 0} {g : Given} {m : Scene → Act A} (f : Scene → A → Act B) {w₀ o₀ : List ℕ} {a₀ : Counts} where
+  -- what gave a value goes on into what comes next
   pub goes : {v : A} {e : Ending B} {w₁ o₁ w o : List ℕ} {a₁ a : Counts}
       → Runs g m w₀ o₀ a₀ (ended v) w₁ o₁ a₁ → Runs g (λ x. f x v) w₁ o₁ a₁ e w o a → Runs g (λ x. m x >>= f x) w₀ o₀ a₀ e w o a
   goes {v} {e} {w₁} {o₁} {w} {o} {a₁} {a} p q = record {
@@ -92,6 +93,7 @@ module _ {A B : Type 0} {g : Given} {m : Scene → Act A} (f : Scene → A → A
         (q .came x (subst (Meant g x) (sym (p .tables)) h));
   }
 
+  -- what ended short ends both
   pub halts : (y : Option Why) {w o : List ℕ} {a : Counts} → Runs g m w₀ o₀ a₀ (short y) w o a → Runs g (λ x. m x >>= f x) w₀ o₀ a₀ (short y) w o a
   halts (some y) p = record {
     ready = p .ready;
