@@ -12,7 +12,7 @@ use Rattle.layout.specs.Format.{whole}
 use Rattle.definition.specs.Question.{Asked, addressOf, sizeOf, readAt, callTo, Question, cut}
 use Rattle.files.specs.FileTable.{body}
 use Rattle.files.specs.Program.{textsIn}
-use Rattle.files.specs.World.{Symbol, symbol, Region, region, symbolOf, byteAt, bytesFrom, addressIn, told, sizeIn, symbolFor, symbolAddress, symbolSize, imageBytes}
+use Rattle.files.specs.World.{Symbol, symbol, Region, region, symbolOf, byteAt, bytesFrom, addressIn, unlessZero, sizeIn, symbolFor, symbolAddress, symbolSize, imageBytes}
 use Rattle.definition.specs.World.{worldOf}
 use Rattle.layout.specs.Text.{same}
 use Rattle.layout.proofs.FormatLaws.{Below, number-sound, pair-sound, counted-sound, every-fits}
@@ -47,7 +47,7 @@ address-fits : (o : Option Symbol) → FoundFits o → OptionFits (addressIn o)
 address-fits none h = tt
 address-fits (some s) h = h .1 .1
 
-told-fits : (n : ℕ) → Below 1 n → OptionFits (told n)
+told-fits : (n : ℕ) → Below 1 n → OptionFits (unlessZero n)
 told-fits zero h = tt
 told-fits (suc n) h = le-trans h (lit≤ tt)
 

@@ -44,13 +44,15 @@ abbrev pub addressIn : Option Symbol → Option ℕ
 addressIn none = none
 addressIn (some s) = some (s .1 .1)
 
-abbrev pub told : ℕ → Option ℕ
-told zero = none
-told (suc n) = some (suc n)
+-- a number, where 0 says that there is none
+abbrev pub unlessZero : ℕ → Option ℕ
+unlessZero zero = none
+unlessZero (suc n) = some (suc n)
 
+-- "`size_of` also for an untold size"
 abbrev pub sizeIn : Option Symbol → Option ℕ
 sizeIn none = none
-sizeIn (some s) = told (s .1 .0)
+sizeIn (some s) = unlessZero (s .1 .0)
 
 -- the symbol of name n of the routine
 abbrev pub symbolFor : List ℕ → List ℕ → ℕ → Option Symbol

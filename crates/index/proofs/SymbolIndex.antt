@@ -5,7 +5,7 @@ use mathlib.Core.Option.{Option, none, some}
 use Prim.Native.Nat.{ℕ, zero, suc, _+_, _-_, _*_, _<_}
 use native.Mathlib.Omega.{arith}
 use Rattle.layout.specs.Number.{numberAt}
-use Rattle.files.specs.World.{Symbol, addressIn, sizeIn, told}
+use Rattle.files.specs.World.{Symbol, addressIn, unlessZero, sizeIn}
 use Rattle.index.specs.declared.Maybe.the-variants.{Known, Nothing}
 use Rattle.index.specs.Answers.{maybeOf}
 use Rattle.index.specs.Texts.{textCount}
@@ -34,11 +34,11 @@ module _ {S part : List ℕ} {n e : ℕ} (g : e ≡ numberAt part (n * 2) 2) whe
 
   -- "`size_of` also for an untold size"
   pub untold-size : {s : ℕ} → (e ≡ 0 → ⊥) → s ≡ numberAt S ((e - 1) * 11 + 2) 1 → s ≡ 0 → SizeOf S part n Nothing
-  untold-size z q y = record { is = λ R W all h. ap (λ (s : ℕ). maybeOf (told s)) (sym y ∙ q) ∙ entry-some S e sizeIn z ∙ entry-tells R W all h sizeIn }
+  untold-size z q y = record { is = λ R W all h. ap (λ (s : ℕ). maybeOf (unlessZero s)) (sym y ∙ q) ∙ entry-some S e sizeIn z ∙ entry-tells R W all h sizeIn }
 
   pub a-size : {s : ℕ} → (e ≡ 0 → ⊥) → s ≡ numberAt S ((e - 1) * 11 + 2) 1 → (s ≡ 0 → ⊥) → SizeOf S part n (Known s)
-  a-size {s} z q y = record { is = λ R W all h. go s y ∙ ap (λ (t : ℕ). maybeOf (told t)) q ∙ entry-some S e sizeIn z ∙ entry-tells R W all h sizeIn }
+  a-size {s} z q y = record { is = λ R W all h. go s y ∙ ap (λ (t : ℕ). maybeOf (unlessZero t)) q ∙ entry-some S e sizeIn z ∙ entry-tells R W all h sizeIn }
     where
-      go : (s : ℕ) → (s ≡ 0 → ⊥) → Known s ≡ maybeOf (told s)
+      go : (s : ℕ) → (s ≡ 0 → ⊥) → Known s ≡ maybeOf (unlessZero s)
       go zero h = absurd (h refl)
       go (suc s) h = refl

@@ -13,7 +13,7 @@ use Rattle.value.specs.declared.Val.{Val}
 use Rattle.value.specs.Value.{type, knownVal, unknownVal, castTo}
 use Rattle.files.specs.Nodes.{kindOf, refOf, widthOf, valueOf}
 use Rattle.files.specs.Program.{Tree, tree, nodeAt, Var}
-use Rattle.files.specs.World.{addressIn, sizeIn}
+use Rattle.files.specs.World.{addressIn, unlessZero, sizeIn}
 use Rattle.memory.specs.Overlay.{find}
 use Rattle.definition.specs.Question.{addressOf, sizeOf, cut}
 use Rattle.definition.specs.Act.{Act, done, fail, ask, act, get, set, noWidth, _>>=_, _>>_}
@@ -50,7 +50,7 @@ use Rattle.operations.specs.declared.names.Told.{Told}
 use Rattle.operations.specs.Registers.{countsIn, howIn, shortIn, toldIn, endIn, toldEnd, unitIn, didWrite}
 use Rattle.operations.specs.Going.{ReadyIn, Goes, Works}
 use Rattle.operations.specs.Steps.{Gives, GivesShort, Tells, IfSet, AtHand}
-use Rattle.operations.specs.Asking.{Sends, LoadsAt, AsksAddress, AsksSize, bitsIf, symbolVal, writeSymbol, WritesSymbol, Writes, Addresses}
+use Rattle.operations.specs.Asking.{Sends, LoadsAt, AsksAddress, AsksSize, symbolVal, writeSymbol, WritesSymbol, Writes, Addresses}
 use Rattle.operations.proofs.Going.{goes, halts, acts, told, by-true, by-false, gives-goes, given-goes, tells-goes, short-goes}
 use Rattle.operations.proofs.Registers.{counts-same, how-same}
 use Rattle.operations.proofs.Standing.{standing}
@@ -74,11 +74,11 @@ was-false : (k : Bool) → not k ≡ true → k ≡ false
 was-false false e = refl
 was-false true e = let z : _≡_ {A = ℕ} 0 1 = cc in absurd (omega arith)
 
-bits-none : (b : ℕ) → b ≡ 0 → bitsIf b ≡ none
+bits-none : (b : ℕ) → b ≡ 0 → unlessZero b ≡ none
 bits-none zero e = refl
 bits-none (suc b) e = absurd (omega (arith, e))
 
-bits-some : (b : ℕ) → (b ≡ 0 → ⊥) → bitsIf b ≡ some b
+bits-some : (b : ℕ) → (b ≡ 0 → ⊥) → unlessZero b ≡ some b
 bits-some zero e = absurd (e refl)
 bits-some (suc b) e = refl
 
@@ -93,25 +93,25 @@ undeclared (some u) e = let z : _≡_ {A = ℕ} 0 1 = cc in absurd (omega arith)
 
 -- the width of a symbol's size
 module _ (known : Bool) (n : ℕ) where
-  pub width-none : not known ≡ true → bitsIf 0 ≡ widthIn (optional known n)
+  pub width-none : not known ≡ true → unlessZero 0 ≡ widthIn (optional known n)
   width-none e = ap widthIn (sym (none-if known n e))
 
   width-some : {z : Option ℕ} → not known ≡ false → z ≡ widthIn (some n) → z ≡ widthIn (optional known n)
   width-some e h = h ∙ ap widthIn (sym (some-if known n e))
 
-  pub width-one : not known ≡ false → n ≡ 1 → bitsIf 8 ≡ widthIn (optional known n)
+  pub width-one : not known ≡ false → n ≡ 1 → unlessZero 8 ≡ widthIn (optional known n)
   width-one e h = width-some e (rw h)
 
-  pub width-two : not known ≡ false → n ≡ 2 → bitsIf 16 ≡ widthIn (optional known n)
+  pub width-two : not known ≡ false → n ≡ 2 → unlessZero 16 ≡ widthIn (optional known n)
   width-two e h = width-some e (rw h)
 
-  pub width-four : not known ≡ false → n ≡ 4 → bitsIf 32 ≡ widthIn (optional known n)
+  pub width-four : not known ≡ false → n ≡ 4 → unlessZero 32 ≡ widthIn (optional known n)
   width-four e h = width-some e (rw h)
 
-  pub width-eight : not known ≡ false → n ≡ 8 → bitsIf 64 ≡ widthIn (optional known n)
+  pub width-eight : not known ≡ false → n ≡ 8 → unlessZero 64 ≡ widthIn (optional known n)
   width-eight e h = width-some e (rw h)
 
-  pub width-other : not known ≡ false → (n ≡ 1 → ⊥) → (n ≡ 2 → ⊥) → (n ≡ 4 → ⊥) → (n ≡ 8 → ⊥) → bitsIf 0 ≡ widthIn (optional known n)
+  pub width-other : not known ≡ false → (n ≡ 1 → ⊥) → (n ≡ 2 → ⊥) → (n ≡ 4 → ⊥) → (n ≡ 8 → ⊥) → unlessZero 0 ≡ widthIn (optional known n)
   width-other e h1 h2 h4 h8 = width-some e (rw (ne-eqb n 1 h1, ne-eqb n 2 h2, ne-eqb n 4 h4, ne-eqb n 8 h8, widthIn))
 
 -- the name of a Var has a slot, and its symbol can be read in the lent part
@@ -212,8 +212,8 @@ module _ {nodes symbols regions : List ℕ} {n : ℕ} {w o w₁ o₁ : List ℕ}
       (λ h v m. ap (λ (t : Option Ty). done (unknownVal (typeOr t))) (sym (m .declared (refOf nodes n) (var-name kind fine)) ∙ ap (declaredAt (tables w₁)) (sym en)))
       (gives-goes e))
 
-  module _ (k₁ : not (r₁ .known) ≡ false) {w₂ o₂ : List ℕ} {r₂ : Told} (e₂ : AsksSize nodes symbols n w₁ o₁ r₂ w₂ o₂) (bits : ℕ) (eb : bitsIf bits ≡ widthIn (optional (r₂ .known) (r₂ .number))) where
-    from-size : {e : Ending Val} {w′ o′ : List ℕ} → Goes (given nodes symbols regions) (λ s. sizedVal (r₁ .number) (bitsIf bits)) w₂ o₂ e w′ o′
+  module _ (k₁ : not (r₁ .known) ≡ false) {w₂ o₂ : List ℕ} {r₂ : Told} (e₂ : AsksSize nodes symbols n w₁ o₁ r₂ w₂ o₂) (bits : ℕ) (eb : unlessZero bits ≡ widthIn (optional (r₂ .known) (r₂ .number))) where
+    from-size : {e : Ending Val} {w′ o′ : List ℕ} → Goes (given nodes symbols regions) (λ s. sizedVal (r₁ .number) (unlessZero bits)) w₂ o₂ e w′ o′
         → Goes (given nodes symbols regions) (λ s. symbolVal (s .env) (refOf nodes n)) w o e w′ o′
     unfolding symbolVal
     from-size f =
@@ -358,8 +358,8 @@ module _ {nodes symbols : List ℕ} {n : ℕ} {w o w₁ o₁ : List ℕ} {r₁ :
         asks-goes (λ x z. andTold (refOf nodes n) (placedWrite (refOf nodes n) v z)) (asks-as (none-if (r₁ .known) (r₁ .number) k) (e₁ .asks regions)) (set-told en refl c t);
   }
 
-  module _ (k₁ : not (r₁ .known) ≡ false) {w₂ o₂ : List ℕ} {r₂ : Told} (e₂ : AsksSize nodes symbols n w₁ o₁ r₂ w₂ o₂) (bits : ℕ) (eb : bitsIf bits ≡ widthIn (optional (r₂ .known) (r₂ .number))) where
-    from-width : {e : Ending Did} {w′ : List ℕ} (regions : List ℕ) → Goes (given nodes symbols regions) (λ s. andTold (refOf nodes n) (sizedWrite (refOf nodes n) (r₁ .number) v (bitsIf bits))) w₂ o₂ e w′ o₂
+  module _ (k₁ : not (r₁ .known) ≡ false) {w₂ o₂ : List ℕ} {r₂ : Told} (e₂ : AsksSize nodes symbols n w₁ o₁ r₂ w₂ o₂) (bits : ℕ) (eb : unlessZero bits ≡ widthIn (optional (r₂ .known) (r₂ .number))) where
+    from-width : {e : Ending Did} {w′ : List ℕ} (regions : List ℕ) → Goes (given nodes symbols regions) (λ s. andTold (refOf nodes n) (sizedWrite (refOf nodes n) (r₁ .number) v (unlessZero bits))) w₂ o₂ e w′ o₂
         → Goes (given nodes symbols regions) (λ s. andTold (refOf nodes n) (writeSymbol (refOf nodes n) v)) w o e w′ o₂
     unfolding writeSymbol _>>=_
     from-width regions f =
@@ -376,7 +376,7 @@ module _ {nodes symbols : List ℕ} {n : ℕ} {w o w₁ o₁ : List ℕ} {r₁ :
     }
 
     module _ {c : Val} (z : bits ≡ 0 → ⊥) (ec : c ≡ castTo v (type bits (v .signed))) where
-      stores-as : andTold (refOf nodes n) (sizedWrite (refOf nodes n) (r₁ .number) v (bitsIf bits)) ≡ (storeVal (r₁ .number) c >> done (didWrite (refOf nodes n) c))
+      stores-as : andTold (refOf nodes n) (sizedWrite (refOf nodes n) (r₁ .number) v (unlessZero bits)) ≡ (storeVal (r₁ .number) c >> done (didWrite (refOf nodes n) c))
       stores-as =
           ap (λ (y : Option ℕ). andTold (refOf nodes n) (sizedWrite (refOf nodes n) (r₁ .number) v y)) (bits-some bits z)
           ∙ ap (λ (u : Val). andTold (refOf nodes n) (storeVal (r₁ .number) u >> done u)) (sym ec)

@@ -2,8 +2,8 @@
 use mathlib.Core.Path.{_≡_}
 use mathlib.Core.Bool.{Bool, true}
 use mathlib.Core.List.{List}
-use mathlib.Core.Option.{Option, none, some}
-use Prim.Native.Nat.{ℕ, zero, suc}
+use mathlib.Core.Option.{none, some}
+use Prim.Native.Nat.{ℕ}
 use lib.ListN.{length}
 use Rattle.value.specs.declared.Ty.{Ty}
 use Rattle.value.specs.declared.Val.{Val}
@@ -64,11 +64,6 @@ pub record AsksAddress (nodes symbols : List ℕ) (n : ℕ) (w o : List ℕ) (r 
 
 pub record AsksSize (nodes symbols : List ℕ) (n : ℕ) (w o : List ℕ) (r : Told) (w′ o′ : List ℕ) : Type 0 where
   pub asks : (regions : List ℕ) → Asks (given nodes symbols regions) sizeOf (refOf nodes n) (optional (r .known) (r .number)) w o w′ o′
-
--- a width, where 0 is none
-abbrev pub bitsIf : ℕ → Option ℕ
-bitsIf zero = none
-bitsIf (suc n) = some (suc n)
 
 -- a name that is not set, read as a symbol
 unfoldable pub symbolVal : Env → ℕ → Act Val

@@ -24,6 +24,7 @@ ghost use Prim.Native.Nat.{_<_, _≤_};
 ghost use lib.ListN.{length};
 ghost use Rattle.value.specs.Value.{unknownVal};
 ghost use Rattle.files.specs.Nodes.{kindOf, refOf};
+ghost use Rattle.files.specs.World.{unlessZero};
 ghost use Rattle.definition.specs.Evaluate.{readVariable, typeOr, widthIn};
 ghost use Rattle.index.specs.Answers.{optionOf};
 ghost use Rattle.stream.specs.Pieces.{questionBytes, symbolEntry, optional};
@@ -35,7 +36,7 @@ ghost use Rattle.hosting.specs.Stands.{Fine};
 ghost use Rattle.operations.specs.Registers.{countsIn, endIn};
 ghost use Rattle.operations.specs.Going.{ReadyIn, Goes};
 ghost use Rattle.operations.specs.Steps.{Gives, IfSet, AtHand};
-ghost use Rattle.operations.specs.Asking.{Sends, AsksAddress, AsksSize, bitsIf, symbolVal, Addresses, WritesSymbol, Writes};
+ghost use Rattle.operations.specs.Asking.{Sends, AsksAddress, AsksSize, symbolVal, Addresses, WritesSymbol, Writes};
 
 // ---- the world's symbols
 
@@ -111,7 +112,7 @@ fn ask_size(nodes: &[u8], symbols: &[u8], ws: &mut [u8], out: &mut [u8], n: usiz
 
 // The width in bits of a symbol of 1, 2, 4 or 8 bytes, else 0.
 fn width_of(known: bool, size: u64) -> u32
-    ensures { λ r. ⌜ (bitsIf r ≡ widthIn (optional known size)) × (r ≤ 64) ⌝ }
+    ensures { λ r. ⌜ (unlessZero r ≡ widthIn (optional known size)) × (r ≤ 64) ⌝ }
 {
     if !known {
         return 0;
