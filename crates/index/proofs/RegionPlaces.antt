@@ -13,11 +13,11 @@ use Rattle.layout.specs.Each.{Bytes}
 use Rattle.layout.specs.Number.{num, numberAt}
 use Rattle.layout.specs.Format.{number, reads, whole}
 use Rattle.layout.proofs.StoreLaws.{each-drop}
+use Rattle.layout.proofs.FormatLaws.{length-reads}
 use Rattle.files.specs.Bytes.{only}
 use Rattle.files.specs.Items.{readFrom}
 use Rattle.files.specs.WorldFile.{Before, before, regionAt, regionItems, regionsIn}
 use Rattle.files.specs.World.{Region, region}
-use Rattle.memory.proofs.EntryLaws.{number-sized, length-reads}
 use Rattle.index.specs.Places.{placeFrom, regionSize}
 use Rattle.index.specs.Regions.{regionCount, regionPlace, startAt, endAt, RegionInside, Regions}
 use Rattle.index.proofs.PlaceLaws.{place-strict}
@@ -58,7 +58,7 @@ region-start b i = refl
 
 region-length : (b : List ℕ) (i : ℕ) → length ((region .read (drop i b) .0) .1) ≡ numberAt b (i + 8) 4
 unfolding numberAt
-region-length b i = length-reads (number-sized 1) (num (take 4 (drop 8 (drop i b)))) (drop 4 (drop 8 (drop i b))) ∙ ap (λ (s : List ℕ). num (take 4 s)) (drop-drop 8 i b)
+region-length b i = length-reads (number 1) (num (take 4 (drop 8 (drop i b)))) (drop 4 (drop 8 (drop i b))) ∙ ap (λ (s : List ℕ). num (take 4 s)) (drop-drop 8 i b)
 
 -- ---- region k
 

@@ -1,7 +1,7 @@
 -- What is written is read back, for each format (`Sound F P`: for the values of which P holds, and every value read is one). Assumes nothing.
 use mathlib.Core.Path.{_≡_, refl, sym, ap, _∙_, subst}
 use mathlib.Core.List.{List, [], _∷_, _++_, append-assoc}
-use Prim.Native.Nat.{ℕ, zero, suc, _+_, _^_, _≤_, _<_}
+use Prim.Native.Nat.{ℕ, zero, suc, _^_, _≤_, _<_}
 use native.Mathlib.Nat.{not-suc-le-zero}
 use native.Mathlib.Omega.{arith}
 use lib.ListN.{length, take, drop, length-append}
@@ -50,17 +50,18 @@ module _ {A B : Type 0} {F : Format A} {P : A → Type 0} (from : B → A) (to :
     fits = λ bs. here (F .read bs .0) (f .fits bs);
   }
 
+-- as many are read as are asked for
+pub length-reads : {A : Type 0} (F : Format A) (n : ℕ) (bs : List ℕ) → length (reads F n bs .0) ≡ n
+length-reads F zero bs = refl
+length-reads F (suc n) bs = ap suc (length-reads F n (F .read bs .1))
+
 module _ {A : Type 0} {F : Format A} {P : A → Type 0} (f : Sound F P) where
-  reads-back : (xs : List A) → Each P xs → (rest : List ℕ) → reads F (length xs) (writes F xs ++ rest) ≡ (xs, rest)
+  pub reads-back : (xs : List A) → Each P xs → (rest : List ℕ) → reads F (length xs) (writes F xs ++ rest) ≡ (xs, rest)
   reads-back [] h rest = refl
   reads-back (x ∷ xs) h rest =
       ap (λ (bs : List ℕ). let r = F .read bs in let q = reads F (length xs) (r .1) in (r .0 ∷ q .0, q .1)) (append-assoc (F .write x) (writes F xs) rest)
       ∙ ap (λ (r : A × List ℕ). let q = reads F (length xs) (r .1) in (r .0 ∷ q .0, q .1)) (f .back x (h .0) (writes F xs ++ rest))
       ∙ ap (λ (q : List A × List ℕ). (x ∷ q .0, q .1)) (reads-back xs (h .1) rest)
-
-  reads-length : (n : ℕ) (bs : List ℕ) → length (reads F n bs .0) ≡ n
-  reads-length zero bs = refl
-  reads-length (suc n) bs = ap suc (reads-length n (F .read bs .1))
 
   reads-fits : (n : ℕ) (bs : List ℕ) → Each P (reads F n bs .0)
   reads-fits zero bs = tt
@@ -69,7 +70,7 @@ module _ {A : Type 0} {F : Format A} {P : A → Type 0} (f : Sound F P) where
   pub times-sound : (n : ℕ) → Sound (times n F) (λ xs. (length xs ≡ n) × Each P xs)
   times-sound n = record {
     back = λ xs h rest. subst (λ (m : ℕ). reads F m (writes F xs ++ rest) ≡ (xs, rest)) (h .0) (reads-back xs (h .1) rest);
-    fits = λ bs. (reads-length n bs, reads-fits n bs);
+    fits = λ bs. (length-reads F n bs, reads-fits n bs);
   }
 
   pub counted-sound : (k : ℕ) → Sound (counted k F) (λ xs. Below k (length xs) × Each P xs)
@@ -78,7 +79,7 @@ module _ {A : Type 0} {F : Format A} {P : A → Type 0} (f : Sound F P) where
         ap (λ (bs : List ℕ). reads F (num (take k bs)) (drop k bs)) (append-assoc (le k (length xs)) (writes F xs) rest)
         ∙ ap (λ (r : ℕ × List ℕ). reads F (r .0) (r .1)) (number-sound k .back (length xs) (h .0) (writes F xs ++ rest))
         ∙ reads-back xs (h .1) rest;
-    fits = λ bs. (rw reads-length (num-take-lt k bs), reads-fits (num (take k bs)) (drop k bs));
+    fits = λ bs. (rw length-reads (num-take-lt k bs), reads-fits (num (take k bs)) (drop k bs));
   }
 
   pub every-fits : (n : ℕ) (bs : List ℕ) → Each P (every F n bs)

@@ -1,6 +1,6 @@
 -- When two texts have the same bytes, place by place, as a loop compares them. Assumes nothing.
 use mathlib.Core.Path.{_≡_, refl, sym, ap, ap₂, _∙_}
-use mathlib.Core.Bool.{Bool, true, false, _&&_}
+use mathlib.Core.Bool.{Bool, true, false, _&&_, and-false}
 use mathlib.Core.List.{List, [], _∷_}
 use Prim.Native.Nat.{ℕ, suc, _+_, _<_, _≤_}
 use native.Mathlib.Numerals.{add-one}
@@ -14,15 +14,11 @@ use Rattle.layout.specs.Text.{same}
 pub drop-at-place : (s : List ℕ) (i : ℕ) → i < length s → drop i s ≡ getD s i 0 ∷ drop (i + 1) s
 drop-at-place s i h = drop-cons s i 0 h ∙ ap (λ (n : ℕ). getD s i 0 ∷ drop n s) (sym (add-one i))
 
-and-false : (t : Bool) → false ≡ (t && false)
-and-false true = refl
-and-false false = refl
-
 pub lengths-differ : (a b : List ℕ) → (length a ≡ length b → ⊥) → false ≡ same a b
 lengths-differ [] [] h = absurd (h refl)
 lengths-differ [] (d ∷ t) h = refl
 lengths-differ (c ∷ s) [] h = refl
-lengths-differ (c ∷ s) (d ∷ t) h = and-false (eqb c d) ∙ ap (λ (b : Bool). eqb c d && b) (lengths-differ s t (λ e. h (ap suc e)))
+lengths-differ (c ∷ s) (d ∷ t) h = sym (and-false (eqb c d)) ∙ ap (λ (b : Bool). eqb c d && b) (lengths-differ s t (λ e. h (ap suc e)))
 
 same-step : (a b : List ℕ) (i : ℕ) → i < length a → i < length b → same (drop i a) (drop i b) ≡ (eqb (getD a i 0) (getD b i 0) && same (drop (i + 1) a) (drop (i + 1) b))
 same-step a b i h k = ap₂ same (drop-at-place a i h) (drop-at-place b i k)

@@ -1,17 +1,17 @@
 -- Entries of one size, once over the size and what an entry says: entry i is at i * k, and entries go in between others. Assumes nothing.
 use mathlib.Core.Path.{_≡_, refl, sym, ap, ap₂, _∙_}
-use mathlib.Core.List.{List, [], _∷_, _++_, append-assoc}
-use Prim.Native.Nat.{ℕ, zero, suc, _+_, _-_, _*_, _≤_, _<_}
+use mathlib.Core.List.{List, [], _∷_, _++_}
+use Prim.Native.Nat.{ℕ, zero, suc, _+_, _*_, _≤_, _<_}
 use native.Mathlib.Nat.{le-of-suc-le-suc, suc-mul, zero-mul, zero-add, suc-add, add-comm}
 use native.Mathlib.Omega.{arith}
 use lib.ListN.{length, take, drop, getD, length-append, length-drop, take-append-drop}
 use lib.Seq.{take-at, drop-at, take-append-le, drop-append-le, drop-drop, length-take-le, take-add}
-use Rattle.layout.specs.Each.{Each, Bytes}
+use Rattle.layout.specs.Each.{Bytes}
 use Rattle.layout.specs.Number.{num}
 use Rattle.layout.specs.Format.{Format, number, pair, writes, reads}
 use Rattle.layout.proofs.NumberLaws.{length-le, le-num}
 use Rattle.layout.proofs.StoreLaws.{each-take, each-drop}
-use Rattle.layout.proofs.FormatLaws.{Sound}
+use Rattle.layout.proofs.FormatLaws.{length-reads}
 
 -- a format of k bytes
 pub record Sized {A : Type 0} (F : Format A) (k : ℕ) : Type 0 where
@@ -45,10 +45,6 @@ pair-sized {F = F} {G = G} {j = j} {k = k} f g = record {
 }
 
 module _ {A : Type 0} {F : Format A} {k : ℕ} (z : Sized F k) where
-  pub length-reads : (n : ℕ) (s : List ℕ) → length (reads F n s .0) ≡ n
-  length-reads zero s = refl
-  length-reads (suc n) s = ap suc (length-reads n (F .read s .1))
-
   pub length-writes : (es : List A) → length (writes F es) ≡ length es * k
   length-writes [] = sym (zero-mul k)
   length-writes (e ∷ es) = rw (length-append, suc-mul, length-writes es, z .long e) (add-comm k (length es * k))
@@ -80,10 +76,10 @@ module _ {A : Type 0} {F : Format A} {k : ℕ} (z : Sized F k) where
       sym (reads-front n (take m s) (drop m s) (rw (length-take-le m s l) h)) ∙ ap (λ (x : List ℕ). reads F n x .0) (take-append-drop m s)
 
   pub take-reads : (m n : ℕ) (s : List ℕ) → take m (reads F (m + n) s .0) ≡ reads F m s .0
-  take-reads m n s = rw reads-add (take-at (reads F m s .0) (reads F n (drop (m * k) s) .0) m (length-reads m s))
+  take-reads m n s = rw reads-add (take-at (reads F m s .0) (reads F n (drop (m * k) s) .0) m (length-reads F m s))
 
   pub drop-reads : (m n : ℕ) (s : List ℕ) → drop m (reads F (m + n) s .0) ≡ reads F n (drop (m * k) s) .0
-  drop-reads m n s = rw reads-add (drop-at (reads F m s .0) (reads F n (drop (m * k) s) .0) m (length-reads m s))
+  drop-reads m n s = rw reads-add (drop-at (reads F m s .0) (reads F n (drop (m * k) s) .0) m (length-reads F m s))
 
   -- entries read are the bytes when written again
   pub writes-reads : (n : ℕ) (s : List ℕ) → n * k ≤ length s → Bytes s → writes F (reads F n s .0) ≡ take (n * k) s
@@ -92,10 +88,3 @@ module _ {A : Type 0} {F : Format A} {k : ℕ} (z : Sized F k) where
       let q : n * k + k ≤ length s = rw suc-mul at h in
       let b : writes F (reads F n (drop k s) .0) ≡ take (n * k) (drop k s) = writes-reads n (drop k s) (rw length-drop (omega arith)) (each-drop k s all) in
       rw (z .rest s, b, z .again s (omega arith) all, suc-mul, add-comm (n * k) k, take-add)
-
-  module _ {P : A → Type 0} (f : Sound F P) where
-    -- entries written are read again
-    pub reads-writes : (es : List A) → Each P es → (t : List ℕ) → reads F (length es) (writes F es ++ t) .0 ≡ es
-    reads-writes [] h t = refl
-    reads-writes (e ∷ es) h t =
-        rw (append-assoc, f .back e (h .0) (writes F es ++ t)) (ap (λ (l : List A). e ∷ l) (reads-writes es (h .1) t))

@@ -10,12 +10,12 @@ use lib.ListN.{length, take, getD}
 use lib.Seq.{drop-drop}
 use Rattle.layout.specs.Number.{num, numberAt}
 use Rattle.layout.proofs.NumberLaws.{numberAt-one}
-use Rattle.layout.proofs.FormatLaws.{Sound, number-sound, pair-sound}
+use Rattle.layout.proofs.FormatLaws.{Sound, number-sound, pair-sound, length-reads}
 use Rattle.memory.specs.Overlay.{Cell, byteOf, toByte, find, rank}
 use Rattle.memory.specs.Entries.{entry, entrySize, rowOf, IsRow}
 use Rattle.memory.specs.Post.{Untouched}
 use Rattle.memory.proofs.OverlayLaws.{below, equal, above, compared, rank-mono, key, rank-below, rank-above, rank-most, Stands, find-at, find-none, rank-found, rank-lost}
-use Rattle.memory.proofs.EntryLaws.{Sized, number-sized, pair-sized, length-reads, reads-at}
+use Rattle.memory.proofs.EntryLaws.{Sized, number-sized, pair-sized, reads-at}
 
 pub entry-sized : Sized entry entrySize
 unfolding entry
@@ -35,7 +35,7 @@ blank = 0
 
 pub length-row : (s : List ℕ) (n : ℕ) → length (rowOf s n) ≡ n
 unfolding rowOf
-length-row s n = length-reads entry-sized n s
+length-row s n = length-reads entry n s
 
 pub row-key : (s : List ℕ) (n i : ℕ) → i < n → key (rowOf s n) i blank ≡ numberAt s (i * entrySize) 8
 unfolding rowOf entry numberAt

@@ -10,6 +10,7 @@ use Rattle.layout.specs.Each.{Each, Bytes}
 use Rattle.layout.specs.Number.{le, num, numberAt, putNumber}
 use Rattle.layout.specs.Format.{writes, reads}
 use Rattle.layout.proofs.NumberLaws.{length-le, num-le}
+use Rattle.layout.proofs.FormatLaws.{reads-back}
 use Rattle.memory.specs.declared.Stored.{Stored}
 use Rattle.memory.specs.declared.Stored.the-variants.{Count, Full}
 use Rattle.memory.specs.declared.row.Span.{Span}
@@ -17,7 +18,7 @@ use Rattle.memory.specs.Overlay.{Overlay, Cell, store, stores, runOf, ra
 use Rattle.memory.specs.Entries.{entry, entrySize, limit, rowOf, IsRow, firstAt, partSize, first, entries, Sorted, piece, overwritten}
 use Rattle.memory.specs.Post.{Holds, Stores, StoresAll, Spans, Spliced}
 use Rattle.memory.proofs.OverlayLaws.{rank-most, stores-one, stores-run, ascending-stores, length-stores}
-use Rattle.memory.proofs.EntryLaws.{length-writes, reads-add, reads-take, reads-front, take-reads, drop-reads, reads-writes}
+use Rattle.memory.proofs.EntryLaws.{length-writes, reads-add, reads-take, reads-front, take-reads, drop-reads}
 use Rattle.memory.proofs.RowLaws.{entry-sized, entry-sound, Fits}
 use Rattle.memory.proofs.MoveLaws.{part-at, part-above}
 use Rattle.memory.proofs.PartLaws.{first-some, first-said, length-entries}
@@ -43,7 +44,7 @@ run-read n a v h =
     let w : length (writes entry es) ≡ n * entrySize = length-writes entry-sized es ∙ ap (λ (k : ℕ). k * entrySize) l in
     sym (reads-front entry-sized n (writes entry es) [] (omega arith))
     ∙ ap (λ (k : ℕ). reads entry k (writes entry es ++ []) .0) (sym l)
-    ∙ reads-writes entry-sized entry-sound es (run-fits n a v h) []
+    ∙ ap (λ (r : Overlay Cell × List ℕ). r .0) (reads-back entry-sound es (run-fits n a v h) [])
 
 -- ---- entries read from a piece
 

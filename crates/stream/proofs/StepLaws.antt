@@ -14,7 +14,8 @@ use Rattle.layout.specs.Each.{Bytes}
 use Rattle.layout.specs.Number.{le, putNumber}
 use Rattle.layout.specs.Format.{number, writes, reads}
 use Rattle.layout.proofs.StoreLaws.{each-drop, each-byte}
-use Rattle.memory.proofs.EntryLaws.{Sized, number-sized, length-reads, length-writes, writes-reads}
+use Rattle.layout.proofs.FormatLaws.{length-reads}
+use Rattle.memory.proofs.EntryLaws.{Sized, number-sized, length-writes, writes-reads}
 use Rattle.definition.specs.Fields.{noVal, flagAndNumber}
 use Rattle.definition.specs.Record.{wroteFields}
 use Rattle.stream.specs.declared.StepPiece.{StepPiece}
@@ -71,7 +72,7 @@ names-again k bs all h = let e : k * 2 ≡ 2 * k = omega arith in writes-reads n
 
 pub length-taken : (taken : Bool) (names : List ℕ) → length (takenNames taken names) ≡ takenCount taken names
 unfolding takenNames
-length-taken taken names = length-reads name (takenCount taken names) (drop 2 names)
+length-taken taken names = length-reads (number 2) (takenCount taken names) (drop 2 names)
 
 pub length-names : (xs : List ℕ) → length (writes (number 2) xs) ≡ 2 * length xs
 length-names xs = omega (arith, length-writes name xs)
@@ -80,7 +81,7 @@ names-bytes : (taken : Bool) (count : ℕ) (names : List ℕ) → Bytes names �
     → namesBytes count names ≡ le 2 (length (takenNames taken names)) ++ writes (number 2) (takenNames taken names)
 unfolding namesBytes takenNames
 names-bytes taken count names all h e =
-    ap₂ (λ (n : ℕ) (l : List ℕ). le 2 n ++ l) (sym (length-reads name count (drop 2 names))) (sym (names-again count (drop 2 names) (each-drop 2 names all) (rw length-drop (omega arith))))
+    ap₂ (λ (n : ℕ) (l : List ℕ). le 2 n ++ l) (sym (length-reads (number 2) count (drop 2 names))) (sym (names-again count (drop 2 names) (each-drop 2 names all) (rw length-drop (omega arith))))
     ∙ ap (λ (k : ℕ). le 2 (length (reads (number 2) k (drop 2 names) .0)) ++ writes (number 2) (reads (number 2) k (drop 2 names) .0)) e
 
 -- ---- the step
@@ -115,4 +116,4 @@ module _ (p : StepPiece) (names : List ℕ) where
   pub length-step : (count : ℕ) → count ≡ takenCount (p .note .taken) names → length (stepBytes (stepFrom p names)) ≡ 63 + 2 * count
   unfolding stepBytes noteFrom stepFrom takenNames
   length-step count e =
-      omega (arith, length-names (takenNames (p .note .taken) names), length-reads name (takenCount (p .note .taken) names) (drop 2 names))
+      omega (arith, length-names (takenNames (p .note .taken) names), length-reads (number 2) (takenCount (p .note .taken) names) (drop 2 names))

@@ -13,7 +13,8 @@ use Rattle.layout.specs.Number.{le, num, numberAt, putNumber}
 use Rattle.layout.specs.Format.{number, reads, boolOf}
 use Rattle.layout.proofs.NumberLaws.{length-le, num-le, le-num}
 use Rattle.layout.proofs.StoreLaws.{each-take, each-drop, drop-sets, take-sets, drop-sets-at}
-use Rattle.memory.proofs.EntryLaws.{Sized, number-sized, length-reads, reads-add, reads-take, writes-reads}
+use Rattle.layout.proofs.FormatLaws.{length-reads}
+use Rattle.memory.proofs.EntryLaws.{Sized, number-sized, reads-add, reads-take, writes-reads}
 use Rattle.workspace.specs.Parts.{part, workspaceSize, notePlace, noteSize, framePart, notePart}
 use Rattle.workspace.specs.Note.{takenLimit, names, namesBytes, pendingIn, noted, taken, withName, Few, Open}
 use Rattle.workspace.specs.View.{Changes, leaving, noting}
@@ -34,7 +35,7 @@ name = number-sized 2
 
 length-listed : (p : List ℕ) → length (listed p) ≡ numberAt p 1 2
 unfolding numberAt
-length-listed p = length-reads name (num (take 2 (drop 1 p))) (drop 2 (drop 1 p))
+length-listed p = length-reads (number 2) (num (take 2 (drop 1 p))) (drop 2 (drop 1 p))
 
 -- ---- what a store in the note does to it
 
@@ -111,7 +112,7 @@ unfolding namesBytes
 listed-bytes p all room few =
     let k = num (take 2 (drop 1 p)) in
     let s = drop 2 (drop 1 p) in
-    let e : length (listed p) ≡ k = length-reads name k s in
+    let e : length (listed p) ≡ k = length-reads (number 2) k s in
     let l : k * 2 ≤ length s = rw (length-drop, length-drop) (omega (arith, e)) in
     let b : le 2 k ≡ take 2 (drop 1 p) = le-num 2 (take 2 (drop 1 p)) (length-take-le 2 (drop 1 p) (rw length-drop (omega arith))) (each-take 2 (drop 1 p) (each-drop 1 p all)) in
     ap (λ (n : ℕ). part 1 (2 + n * 2) p) e
