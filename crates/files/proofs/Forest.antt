@@ -48,13 +48,13 @@ turned false true false c rest r h = absurd (omega arith)
 turned false false z c rest r h = absurd (omega arith)
 
 -- how many children the count that a kind accepts tells of
-record Counted (b : List ℕ) (k c : ℕ) : Type 0 where
+record Counted (k c : ℕ) : Type 0 where
   some : 1 ≤ c
   few : (ruleOf k) .few ≤ c - 1
   many : c - 1 ≤ (ruleOf k) .many
 
-counted : (b : List ℕ) (k c : ℕ) → countOk k c ≡ true → Counted b k c
-counted b k c h =
+counted : (k c : ℕ) → countOk k c ≡ true → Counted k c
+counted k c h =
     let t = each-true (leb 1 c) (leb ((ruleOf k) .few) (c - 1) ∷ leb (c - 1) ((ruleOf k) .many) ∷ []) h in
     record { some = leb-true _ _ (t .0); few = leb-true _ _ (t .1 .0); many = leb-true _ _ (t .1 .1 .0) }
 
@@ -79,7 +79,7 @@ module _ (b : List ℕ) where
       go (over x s) below beside = record { k = 0; sum = omega arith; forest = let z : n ≡ e = omega (arith, leb-true e n x) in bare z }
       go (onward x y z s) below beside =
           let m = node-placed b d p n e y in
-          let u = counted b (kindOf b n) kids z in
+          let u = counted (kindOf b n) kids z in
           let w = pred-of kids (u .some) in
           let under = below (w .y) (omega (arith, m .some)) (w .is) in
           let after = beside (omega (arith, m .fits, leb-false e n x)) s in

@@ -1,15 +1,15 @@
--- What an evaluator at a node of an accepted body asks: how many children it has, where they stand and which trees they are, and what its fields
--- can be. A law for each kind, over `At b n t`. Assumes nothing.
+-- What an evaluator at a node of an accepted body asks: how many children it has and where they stand, over `At b n t`, and what its fields can be.
+-- Assumes nothing.
 use mathlib.Core.Path.{_≡_, refl, subst, _∙_}
-use mathlib.Core.Bool.{Bool, true, false, not, _&&_, _||_}
+use mathlib.Core.Bool.{Bool, true, false, not, _&&_, _||_, false≢true}
 use mathlib.Core.List.{List, [], _∷_}
-use Prim.Native.Nat.{ℕ, _+_, _-_, _*_, _/_, _≤_, _<_}
+use Prim.Native.Nat.{ℕ, _+_, _*_, _/_, _≤_, _<_}
 use native.Mathlib.Omega.{arith}
 use borrow.Author.Tests.{leb-true, ltb-true, eqb-true, ne-eqb}
 use lib.Dec.{leb, ltb, eqb}
 use lib.ListN.{length}
 use Rattle.files.specs.Nodes.{kindOf, flagOf, refOf, widthOf, valueOf, placedOk, ruleOf, refBelow, fieldOk, fieldsOk}
-use Rattle.files.specs.Program.{Node, Tree, tree, Trees, nil, cons, nodeAt}
+use Rattle.files.specs.Program.{Node, Tree, tree, Trees, cons, nodeAt}
 use Rattle.files.specs.Spells.{Inside, next, At, node-at, KidsAt, no-kid, a-kid, Accepted, size, Under, under-some}
 use Rattle.files.proofs.BoolLaws.{each-true}
 use Rattle.files.proofs.ItemLaws.{every-at}
@@ -28,16 +28,7 @@ at-room a = let i = at-inside a in omega (arith, i .some, i .fits)
 pub at-node : {b : List ℕ} {n : ℕ} {t : Tree} → At b n t → n < length b / 20
 at-node a = omega (arith, at-room a)
 
--- ---- children side by side
-
--- the child at n, and those after it
-pub record NextKid (b : List ℕ) (n e : ℕ) (ts : Trees) : Type 0 where
-  pub kid : Tree
-  pub others : Trees
-  pub is : ts ≡ cons kid others
-  pub at : At b n kid
-  pub within : next b n ≤ e
-  pub rest : KidsAt b (next b n) e others
+-- ---- where a child may stand
 
 -- what a child is placed under tells whether it is a field
 pub under-next : {b : List ℕ} {p n : ℕ} {t : Tree} {ts us : Trees} → At b n t → us ≡ cons t ts → Under p us → (placedOk (kindOf b n) p ≡ true) × Under p ts
@@ -54,40 +45,9 @@ placed-field k p h q = go (eqb k 18) refl (rw (q, eqb k 18) at h)
     go false e g = eqb-true k 18 (e ∙ g)
 
 pub placed-other : (k p : ℕ) → placedOk k p ≡ true → (p ≡ 17 → ⊥) → k ≡ 18 → ⊥
-placed-other k p h f q = go (rw (q, ne-eqb p 17 f) at h)
-  where
-    go : false ≡ true → ⊥
-    go g = let z : _≡_ {A = ℕ} 0 1 = cc in omega arith
+placed-other k p h f q = false≢true (rw (q, ne-eqb p 17 f) at h)
 
 -- ---- the shapes
-
-pub record Leaf (b : List ℕ) (n : ℕ) (t : Tree) : Type 0 where
-  pub is : t ≡ tree (nodeAt b n) nil
-  pub ends : next b n ≡ n + 1
-
-pub record OneKid (b : List ℕ) (n : ℕ) (t : Tree) : Type 0 where
-  pub kid : Tree
-  pub is : t ≡ tree (nodeAt b n) (cons kid nil)
-  pub at : At b (n + 1) kid
-  pub ends : next b (n + 1) ≡ next b n
-
-pub record TwoKids (b : List ℕ) (n : ℕ) (t : Tree) : Type 0 where
-  pub left : Tree
-  pub right : Tree
-  pub is : t ≡ tree (nodeAt b n) (cons left (cons right nil))
-  pub at-left : At b (n + 1) left
-  pub at-right : At b (next b (n + 1)) right
-  pub ends : next b (next b (n + 1)) ≡ next b n
-
-pub record ThreeKids (b : List ℕ) (n : ℕ) (t : Tree) : Type 0 where
-  pub first : Tree
-  pub second : Tree
-  pub third : Tree
-  pub is : t ≡ tree (nodeAt b n) (cons first (cons second (cons third nil)))
-  pub at-first : At b (n + 1) first
-  pub at-second : At b (next b (n + 1)) second
-  pub at-third : At b (next b (next b (n + 1))) third
-  pub ends : next b (next b (next b (n + 1))) ≡ next b n
 
 pub record AnyKids (b : List ℕ) (n : ℕ) (t : Tree) : Type 0 where
   pub kids : Trees
