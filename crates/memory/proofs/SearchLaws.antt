@@ -52,11 +52,12 @@ four-fit a b c d t u v w ea eb ec ed = omega arith
 
 -- ---- a stretch parted in quarters
 
-module _ (k i q size c : ℕ) (least : i ≤ k) (most : k ≤ i + size) (fits : 4 * q ≤ size) where
-  abbrev Within : Type 0
-  Within = (i + q * c ≤ k) × (k ≤ i + q * c + (size - 3 * q)) × (q * c ≤ 3 * q)
+-- rank k lies in what is left of a stretch of `size` places from i on once c quarters of q places are passed
+abbrev pub Within : ℕ → ℕ → ℕ → ℕ → ℕ → Type 0
+Within k i q size c = (i + q * c ≤ k) × (k ≤ i + q * c + (size - 3 * q)) × (q * c ≤ 3 * q)
 
-  parted : (x y z : ℕ) → c ≡ x + y + z → Before x (i + q) k → Before y (i + 2 * q) k → Before z (i + 3 * q) k → Within
+module _ (k i q size c : ℕ) (least : i ≤ k) (most : k ≤ i + size) (fits : 4 * q ≤ size) where
+  parted : (x y z : ℕ) → c ≡ x + y + z → Before x (i + q) k → Before y (i + 2 * q) k → Before z (i + 3 * q) k → Within k i q size c
   parted x y z e (no h f) (no l g) (no m j) = let n : c ≡ 0 = omega arith in rw n (omega arith)
   parted x y z e (yes h f) (no l g) (no m j) = let n : c ≡ 1 = omega arith in rw n (omega arith)
   parted x y z e (yes h f) (yes l g) (no m j) = let n : c ≡ 2 = omega arith in rw n (omega arith)
@@ -65,7 +66,7 @@ module _ (k i q size c : ℕ) (least : i ≤ k) (most : k ≤ i + size) (fits : 
   parted x y z e (no h f) (no l g) (yes m j) = absurd (omega arith)
   parted x y z e (yes h f) (no l g) (yes m j) = absurd (omega arith)
 
-  pub quarter : c ≡ passed k i q → Within
+  pub quarter : c ≡ passed k i q → Within k i q size c
   unfolding passed
   quarter e = parted (min 1 (k - (i + q))) (min 1 (k - (i + 2 * q))) (min 1 (k - (i + 3 * q))) e (told (i + q) k) (told (i + 2 * q) k) (told (i + 3 * q) k)
 

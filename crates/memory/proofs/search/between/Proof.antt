@@ -1,8 +1,8 @@
 use denote.Ref.{now}
 use borrow.Author.Needs.{needs}
 use native.Mathlib.Omega.{arith}
-use Prim.Native.Nat.{_+_, _/_, _≤_}
-use Rattle.memory.proofs.SearchLaws.{quarter}
+use Prim.Native.Nat.{ℕ, _+_, _/_, _≤_}
+use Rattle.memory.proofs.SearchLaws.{Within, quarter}
 use Rattle.memory.specs.Entries.{rowOf}
 use Rattle.memory.specs.Overlay.{rank}
 use Rattle.memory.proofs.search.between.Statement.{statement}
@@ -24,18 +24,23 @@ loop-holds c = search needs
 quarters-requires : tie.Need-quarters-requires Inv-loop μ-loop
 quarters-requires c κs = search needs
 
+abbrev rank-of : tie.After-quarters Inv-loop μ-loop → ℕ
+rank-of c = let x = c .before .before .before .before .args in rank (x .address) (rowOf (now (x .row)) (x .count))
+
+-- the rank lies in the stretch that the search goes on with
+within : (c : tie.After-quarters Inv-loop μ-loop) → Within (rank-of c) (c .before .before .loop .base) (c .before .before .loop .size / 4) (c .before .before .loop .size) (c .quarters .result)
+within c =
+    let l = c .before .before .loop in
+    quarter (rank-of c) (l .base) (l .size / 4) (l .size) (c .quarters .result) (l .inv .0) (l .inv .1) (omega arith) (c .quarters .ensures)
+
 mul-base : tie.Need-mul-base Inv-loop μ-loop
 mul-base c =
-    let l = c .before .before .loop in
-    let x = c .before .before .before .before .args in
-    let h = quarter (rank (x .address) (rowOf (now (x .row)) (x .count))) (l .base) (l .size / 4) (l .size) (c .quarters .result) (l .inv .0) (l .inv .1) (omega arith) (c .quarters .ensures) in
+    let h = within c in
     omega (arith, h .0, h .1, h .2)
 
 add-base : tie.Need-add-base Inv-loop μ-loop
 add-base c =
-    let l = c .before .before .loop in
-    let x = c .before .before .before .before .args in
-    let h = quarter (rank (x .address) (rowOf (now (x .row)) (x .count))) (l .base) (l .size / 4) (l .size) (c .quarters .result) (l .inv .0) (l .inv .1) (omega arith) (c .quarters .ensures) in
+    let h = within c in
     omega (arith, h .0, h .1, h .2)
 
 mul-size : tie.Need-mul-size Inv-loop μ-loop
@@ -49,9 +54,7 @@ loop-less c = search needs
 
 loop-again : tie.Need-loop-again Inv-loop μ-loop
 loop-again c =
-    let l = c .before .before .loop in
-    let x = c .before .before .before .before .args in
-    let h = quarter (rank (x .address) (rowOf (now (x .row)) (x .count))) (l .base) (l .size / 4) (l .size) (c .quarters .result) (l .inv .0) (l .inv .1) (omega arith) (c .quarters .ensures) in
+    let h = within c in
     omega (arith, h .0, h .1, h .2)
 
 add-last-four : tie.Need-add-last-four Inv-loop μ-loop
