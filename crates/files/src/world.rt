@@ -52,7 +52,7 @@ fn region_at(b: &[u8], n: usize, last: u64, i: usize) -> usize
         return 0;
     }
     // The last address is at + (size - 1): a region may end at 2^64, which no u64 holds.
-    if 0xffff_ffff_ffff_ffff - at < size - 1 {
+    if u64::MAX - at < size - 1 {
         return 0;
     }
     if b.len() - (i + REGION) < size as usize {

@@ -31,10 +31,10 @@ pub record IsRow (s : List ℕ) (n : ℕ) : Type 0 where
 
 -- A part has a place for each entry, and then two bytes for the place of the first, so that entries can be put in before it too.
 abbrev pub firstAt : ℕ
-firstAt = 36864
+firstAt = limit * entrySize
 
 abbrev pub partSize : ℕ
-partSize = 36866
+partSize = firstAt + 2
 
 -- the place of the first of n entries; no entries are anywhere
 unfoldable pub first : List ℕ → ℕ → ℕ

@@ -381,7 +381,7 @@ pub fn store_number(
 {
     if 0 < bytes {
         if bytes <= 8 {
-            if address <= 18446744073709551615 - (bytes as u64 - 1) {
+            if address <= u64::MAX - (bytes as u64 - 1) {
                 return store_run(part, count, address, number, bytes);
             }
         }

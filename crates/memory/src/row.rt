@@ -83,11 +83,7 @@ pub fn find(row: &[u8], count: usize, address: u64) -> Found
 fn after(address: u64, at: usize) -> usize
     ensures { λ r. ⌜ (address + 1 ≡ 2 ^ 64 → r ≡ 0) × (address + 1 < 2 ^ 64 → r ≡ at) ⌝ }
 {
-    if address == 18446744073709551615 {
-        0
-    } else {
-        at
-    }
+    if address == u64::MAX { 0 } else { at }
 }
 
 // The byte at an address whose rank is known, the overlay's or else the image's first, and the rank of the next address.
