@@ -3,7 +3,7 @@ use lib.ListN.{length, take, drop, getD, set, length-set}
 use native.Mathlib.Omega.{arith}
 use mathlib.Core.Path.{_≡_, refl, ap, _∙_}
 use mathlib.Core.List.{List, _++_}
-use Prim.Native.Nat.{ℕ, _+_, _-_, _≤_}
+use Prim.Native.Nat.{ℕ, _-_, _≤_}
 use denote.Ref.{now}
 use Rattle.layout.proofs.copy.Statement.{statement}
 use Rattle.layout.proofs.copy.Tie as tie

@@ -7,7 +7,6 @@ use lib.ListN.{length, drop}
 use denote.Ref.{now}
 use Rattle.layout.specs.Text.{same}
 use Rattle.layout.proofs.TextLaws.{lengths-differ, bytes-differ, bytes-agree, bytes-end}
-use denote.Ref.{now}
 use Rattle.layout.proofs.same_bytes.Statement.{statement}
 use Rattle.layout.proofs.same_bytes.Tie as tie
 

@@ -1,8 +1,7 @@
 use Prim.Native.Nat.{_*_}
 use native.Mathlib.Omega.{arith}
 use denote.Ref.{now}
-use Rattle.memory.specs.Entries.{entrySize}
-use Rattle.memory.specs.Entries.{piece}
+use Rattle.memory.specs.Entries.{entrySize, piece}
 use Rattle.memory.proofs.MoveLaws.{slid-up, slid-down, slid-none}
 use borrow.Author.Needs.{needs}
 use Rattle.memory.proofs.slide.Statement.{statement}

@@ -9,7 +9,6 @@ use lib.Seq.{take-length}
 use denote.Ref.{now}
 use Rattle.spelling.specs.Spelling.{afterSpaces, beginsStar}
 use Rattle.spelling.proofs.Words.{star-here, other-here, space-here}
-use denote.Ref.{now}
 use Rattle.spelling.proofs.last_star.Statement.{statement}
 use Rattle.spelling.proofs.last_star.Tie as tie
 

@@ -7,7 +7,6 @@ use lib.ListN.{length, drop}
 use denote.Ref.{now}
 use Rattle.spelling.specs.Spelling.{pieceEnd}
 use Rattle.spelling.proofs.Words.{end-here, end-later, end-last}
-use denote.Ref.{now}
 use Rattle.spelling.proofs.piece_end.Statement.{statement}
 use Rattle.spelling.proofs.piece_end.Tie as tie
 

@@ -1,8 +1,7 @@
-use mathlib.Core.Path.{_≡_}
 use Rattle.memory.proofs.RowLaws.{search-most}
 use denote.Ref.{now}
 use native.Mathlib.Omega.{arith}
-use mathlib.Core.Path.{ap, _∙_}
+use mathlib.Core.Path.{_≡_, ap, _∙_}
 use Prim.Native.Nat.{ℕ, suc, _+_, _-_}
 use Rattle.memory.proofs.OverlayLaws.{rank-mono}
 use Rattle.memory.specs.Entries.{rowOf}
