@@ -106,9 +106,8 @@ nodeOk b depth parent n e =
 abbrev pub countOk : ℕ → ℕ → Bool
 countOk k c = leb 1 c && leb ((ruleOf k) .few) (c - 1) && leb (c - 1) ((ruleOf k) .many)
 
--- "span counts the node and all under it, children follow their parent": the trees side by side from node n up to node e, under a parent of a kind, c of
--- them before: 1 more than how many there are in all; 0 where one is not as it must be. "A chain from parent to child has at most 64 nodes", `depth` of
--- them left. At most f nodes are read on the way
+-- "span counts the node and all under it, children follow their parent": of the trees side by side from node n up to node e, under a parent of a kind and
+-- after c others, 1 more than how many there are in all, or 0 if one is refused. `depth` nodes are left for a chain; at most f are read on the way
 unfoldable pub treesFrom : ℕ → List ℕ → ℕ → ℕ → ℕ → ℕ → ℕ → ℕ
 treesFrom zero b depth parent n e c = 0
 treesFrom (suc f) b depth parent n e c =
@@ -131,7 +130,7 @@ top = 20
 unfoldable pub trees : List ℕ → ℕ → ℕ → ℕ → ℕ → ℕ → ℕ
 trees b depth parent n e c = treesFrom (suc (length b)) b depth parent n e c
 
--- 6: "a node body whose length is no multiple of 20", or whose trees are not as they must be
+-- 6: "a node body whose length is no multiple of 20", or whose trees are not as they must be. "A chain from parent to child has at most 64 nodes"
 unfoldable pub treesOk : List ℕ → Bool
 treesOk b = eqb (length b % 20) 0 && leb 1 (trees b 64 top 0 (length b / 20) 0)
 
