@@ -1,16 +1,16 @@
 -- Numbers of two bytes that a part holds as entries, one stored after the other. Assumes nothing.
 use mathlib.Core.Path.{_≡_, refl, sym, ap, subst, _∙_}
 use mathlib.Core.Bool.{Bool, true, false}
-use mathlib.Core.List.{List, [], _∷_}
-use Prim.Native.Nat.{ℕ, zero, suc, _+_, _^_, _≤_, _<_}
+use mathlib.Core.List.{List}
+use Prim.Native.Nat.{ℕ, _+_, _^_, _≤_, _<_}
 use native.Mathlib.Omega.{arith}
 use borrow.Author.Tests.{ltb-true, ltb-false}
 use lib.Dec.{ltb}
 use lib.ListN.{length, take, drop}
-use lib.Seq.{take-at, take-take, sets, length-sets}
+use lib.Seq.{take-at, length-sets}
 use Rattle.layout.specs.Number.{le, num, numberAt, putNumber}
 use Rattle.layout.proofs.NumberLaws.{length-le, num-le}
-use Rattle.layout.proofs.StoreLaws.{take-sets, drop-sets-at}
+use Rattle.layout.proofs.StoreLaws.{number-above, drop-sets-at}
 
 pub length-put : (s : List ℕ) (i k v : ℕ) → length (putNumber s i k v) ≡ length s
 unfolding putNumber
@@ -23,17 +23,10 @@ number-put s i k v h l =
     let e : length (le k v) ≡ k = length-le k v in
     ap (λ (t : List ℕ). num (take k t)) (drop-sets-at (le k v) s i (rw e h)) ∙ ap num (take-at (le k v) (drop (i + length (le k v)) s) k e) ∙ num-le k v l
 
-cut : (m j i : ℕ) (u : List ℕ) → j + m ≤ i → take m (drop j u) ≡ take m (drop j (take i u))
-cut m zero i u h = sym (take-take m i u (omega arith))
-cut m (suc j) zero u h = absurd (omega arith)
-cut m (suc j) (suc i) [] h = refl
-cut m (suc j) (suc i) (x ∷ u) h = cut m j i u (omega arith)
-
 -- what lies before it is as it was
 pub number-put-before : (s : List ℕ) (i k v j m : ℕ) → j + m ≤ i → numberAt (putNumber s i k v) j m ≡ numberAt s j m
-unfolding numberAt putNumber
-number-put-before s i k v j m h =
-    ap num (cut m j i (sets s i (le k v)) h ∙ ap (λ (u : List ℕ). take m (drop j u)) (take-sets (le k v) s i i (omega arith)) ∙ sym (cut m j i s h))
+unfolding putNumber
+number-put-before s i k v j m h = number-above s (le k v) i j m h
 
 -- ---- entries at places: what P says of each of the first n
 

@@ -1,6 +1,6 @@
 -- A number of some bytes read byte by byte, and the bytes of two numbers side by side. Assumes nothing.
 use mathlib.Core.Path.{_≡_, sym, ap, ap₂, subst₂, _∙_}
-use mathlib.Core.List.{List, [], _∷_, _++_}
+use mathlib.Core.List.{List, _++_}
 use Prim.Native.Nat.{ℕ, zero, suc, _+_, _-_, _*_, _/_, _^_, _≤_, _<_}
 use native.Mathlib.Nat.{pow-le-pow-right, mod-lt}
 use native.Mathlib.Omega.{arith}
@@ -10,7 +10,7 @@ use lib.Seq.{length-take-le}
 use Rattle.layout.specs.Each.{Bytes}
 use Rattle.layout.specs.Number.{le, num, numberAt}
 use Rattle.layout.proofs.NumberLaws.{length-le, num-le, num-lt, le-num, num-append, numberAt-add, numberAt-lt}
-use Rattle.layout.proofs.StoreLaws.{each-take, each-drop}
+use Rattle.layout.proofs.StoreLaws.{each-take, each-drop, all-append}
 
 -- ---- byte by byte, from the last to the first: the bytes past `left` are read
 
@@ -56,10 +56,6 @@ le-bytes : (k n : ℕ) → Bytes (le k n)
 le-bytes zero n = tt
 le-bytes (suc k) n = (mod-lt n (lit< tt), le-bytes k (n / 256))
 
-each-append : (xs ys : List ℕ) → Bytes xs → Bytes ys → Bytes (xs ++ ys)
-each-append [] ys p q = q
-each-append (x ∷ xs) ys p q = (p .0, each-append xs ys (p .1) q)
-
 module _ (j k m n : ℕ) (h : m < 256 ^ j) (g : n < 256 ^ k) where
   joined : num (le j m ++ le k n) ≡ m + 256 ^ j * n
   joined =
@@ -71,7 +67,7 @@ module _ (j k m n : ℕ) (h : m < 256 ^ j) (g : n < 256 ^ k) where
 
   -- the bytes of a number above another
   pub le-join : le (j + k) (m + 256 ^ j * n) ≡ le j m ++ le k n
-  le-join = ap (le (j + k)) (sym joined) ∙ le-num (j + k) (le j m ++ le k n) both (each-append (le j m) (le k n) (le-bytes j m) (le-bytes k n))
+  le-join = ap (le (j + k)) (sym joined) ∙ le-num (j + k) (le j m ++ le k n) both (all-append (λ b. b < 256) (le j m) (le k n) (le-bytes j m) (le-bytes k n))
 
   pub join-small : m + 256 ^ j * n < 256 ^ (j + k)
   join-small = subst₂ (λ (x l : ℕ). x < 256 ^ l) joined both (num-lt (le j m ++ le k n))

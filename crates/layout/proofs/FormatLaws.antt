@@ -1,5 +1,6 @@
 -- What is written is read back, for each format (`Sound F P`: for the values of which P holds, and every value read is one). Assumes nothing.
 use mathlib.Core.Path.{_≡_, refl, sym, ap, _∙_, subst}
+use mathlib.Core.Bool.{true}
 use mathlib.Core.List.{List, [], _∷_, _++_, append-assoc}
 use Prim.Native.Nat.{ℕ, zero, suc, _^_, _≤_, _<_}
 use native.Mathlib.Nat.{not-suc-le-zero}
@@ -9,7 +10,7 @@ use lib.Seq.{take-at, drop-at}
 use Rattle.layout.specs.Each.{Each}
 use Rattle.layout.specs.Number.{le, num}
 use Rattle.layout.proofs.NumberLaws.{length-le, num-le, num-take-lt}
-use Rattle.layout.specs.Format.{Format, number, then, pair, via, writes, reads, times, counted, every, whole}
+use Rattle.layout.specs.Format.{Format, number, boolOf, then, pair, via, writes, reads, times, counted, every, whole}
 
 pub record Sound {A : Type 0} (F : Format A) (P : A → Type 0) : Type 0 where
   pub back : (a : A) → P a → (rest : List ℕ) → F .read (F .write a ++ rest) ≡ (a, rest)
@@ -24,6 +25,10 @@ number-sound k = record {
       (_∙_ (ap num (take-at (le k n) rest k (length-le k n))) (num-le k n h) i, drop-at (le k n) rest k (length-le k n) i);
   fits = λ bs. num-take-lt k bs;
 }
+
+pub flag-set : (n : ℕ) → (n ≡ 0 → ⊥) → boolOf n ≡ true
+flag-set zero h = absurd (h refl)
+flag-set (suc n) h = refl
 
 abbrev next : {A : Type 0} {B : A → Type 0} → ((a : A) → Format (B a)) → A × List ℕ → ((a : A) × B a) × List ℕ
 next G r = let s = G (r .0) .read (r .1) in ((r .0, s .0), s .1)

@@ -2,25 +2,38 @@
 use mathlib.Core.Path.{_≡_, refl, sym, ap, ap₂, _∙_}
 use mathlib.Core.List.{List, [], _∷_, _++_, append-assoc}
 use Prim.Native.Nat.{ℕ, zero, suc, _+_, _≤_, _<_}
-use native.Mathlib.Nat.{add-suc, suc-add, add-zero}
+use native.Mathlib.Nat.{add-suc, suc-add, zero-add, add-zero}
 use native.Mathlib.Numerals.{add-one}
 use native.Mathlib.Omega.{arith}
 use lib.ListN.{length, take, drop, getD, set, length-set, take-append-drop}
-use lib.Seq.{sets, sets-eq, drop-at, take-at, set-at, take-suc, drop-cons, append-snoc, length-take-le, drop-set-lt, drop-set-add, take-set-le, set-append-left}
+use lib.Seq.{sets, sets-eq, drop-at, take-at, set-at, take-suc, drop-cons, append-snoc, length-take-le, drop-set-lt, drop-set-add, take-nil, take-take, take-set-le, set-append-left}
 use borrow.Rule.Slice.PartMut.{midOf, postOf, putMid}
-use Rattle.layout.specs.Each.{Bytes}
+use Rattle.layout.specs.Each.{Each, Bytes}
+use Rattle.layout.specs.Number.{num, numberAt}
 
--- ---- bytes
+-- ---- what holds of every element
 
+module _ {A : Type 0} (P : A → Type 0) where
+  pub all-take : (n : ℕ) (s : List A) → Each P s → Each P (take n s)
+  all-take zero s all = tt
+  all-take (suc n) [] all = tt
+  all-take (suc n) (x ∷ s) all = (all .0, all-take n s (all .1))
+
+  pub all-drop : (n : ℕ) (s : List A) → Each P s → Each P (drop n s)
+  all-drop zero s all = all
+  all-drop (suc n) [] all = tt
+  all-drop (suc n) (x ∷ s) all = all-drop n s (all .1)
+
+  pub all-append : (s t : List A) → Each P s → Each P t → Each P (s ++ t)
+  all-append [] t h g = g
+  all-append (x ∷ s) t h g = (h .0, all-append s t (h .1) g)
+
+-- of bytes
 pub each-take : (n : ℕ) (s : List ℕ) → Bytes s → Bytes (take n s)
-each-take zero s all = tt
-each-take (suc n) [] all = tt
-each-take (suc n) (x ∷ s) all = (all .0, each-take n s (all .1))
+each-take = all-take (λ b. b < 256)
 
 pub each-drop : (n : ℕ) (s : List ℕ) → Bytes s → Bytes (drop n s)
-each-drop zero s all = all
-each-drop (suc n) [] all = tt
-each-drop (suc n) (x ∷ s) all = each-drop n s (all .1)
+each-drop = all-drop (λ b. b < 256)
 
 pub each-byte : (s : List ℕ) → ((i : ℕ) → getD s i 0 < 256) → Bytes s
 each-byte [] h = tt
@@ -40,6 +53,21 @@ drop-sets (v ∷ vs) l i n h = drop-sets vs (set l i v) (suc i) n (omega arith) 
 pub take-sets : (vs l : List ℕ) (i n : ℕ) → n ≤ i → take n (sets l i vs) ≡ take n l
 take-sets [] l i n h = refl
 take-sets (v ∷ vs) l i n h = take-sets vs (set l i v) (suc i) n (omega arith) ∙ take-set-le n l i v h
+
+pub drop-take : {A : Type 0} (a k : ℕ) (s : List A) → drop a (take (a + k) s) ≡ take k (drop a s)
+drop-take zero k s = rw zero-add
+drop-take (suc a) k [] = rw (take-nil, take-nil)
+drop-take (suc a) k (x ∷ s) = rw suc-add (drop-take a k s)
+
+-- what lies within the first p elements
+pub part-take : {A : Type 0} (a k p : ℕ) (s : List A) → a + k ≤ p → take k (drop a (take p s)) ≡ take k (drop a s)
+part-take a k p s h = sym (drop-take a k (take p s)) ∙ ap (drop a) (take-take (a + k) p s h) ∙ drop-take a k s
+
+-- a number before them
+pub number-above : (s vs : List ℕ) (i j k : ℕ) → j + k ≤ i → numberAt (sets s i vs) j k ≡ numberAt s j k
+unfolding numberAt
+number-above s vs i j k h =
+    ap num (sym (part-take j k i (sets s i vs) h) ∙ ap (λ (l : List ℕ). take k (drop j l)) (take-sets vs s i i (omega arith)) ∙ part-take j k i s h)
 
 -- from where they are stored on
 pub drop-sets-at : (vs l : List ℕ) (i : ℕ) → i + length vs ≤ length l → drop i (sets l i vs) ≡ vs ++ drop (i + length vs) l

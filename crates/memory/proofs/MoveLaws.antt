@@ -1,14 +1,14 @@
 -- Bytes moved within a list: turn by turn, through a lent part, and what stays where it is. Assumes nothing.
 use mathlib.Core.Path.{_≡_, refl, sym, ap, _∙_, subst}
 use mathlib.Core.List.{List, [], _∷_, _++_}
-use Prim.Native.Nat.{ℕ, zero, suc, _+_, _-_, _≤_, _<_}
+use Prim.Native.Nat.{ℕ, suc, _+_, _-_, _≤_, _<_}
 use native.Mathlib.Nat.{zero-add, suc-add}
 use native.Mathlib.Numerals.{add-one}
 use native.Mathlib.Omega.{arith}
 use lib.ListN.{length, take, drop, getD, set, length-take, length-drop, take-append-drop}
-use lib.Seq.{sets, sets-eq, set-comm, getD-set-other, getD-drop, drop-cons, drop-drop, take-suc, take-all, take-at, take-add, take-nil, length-take-le}
+use lib.Seq.{sets, sets-eq, set-comm, getD-set-other, getD-drop, drop-cons, drop-drop, take-suc, take-all, take-at, take-add, length-take-le}
 use borrow.Rule.Slice.PartMut.{midOf, putMid}
-use Rattle.layout.proofs.StoreLaws.{sets-append, put-sets, take-sets, drop-sets, drop-sets-at}
+use Rattle.layout.proofs.StoreLaws.{sets-append, put-sets, take-sets, drop-sets, drop-sets-at, drop-take}
 
 -- ---- bytes move up by g, the last first
 
@@ -116,11 +116,6 @@ part-at s vs i n l h =
 
 pub part-above : (s vs : List ℕ) (i a n : ℕ) → i + length vs ≤ a → take n (drop a (sets s i vs)) ≡ take n (drop a s)
 part-above s vs i a n h = ap (take n) (drop-sets vs s i a h)
-
-drop-take : (a n : ℕ) (t : List ℕ) → drop a (take (a + n) t) ≡ take n (drop a t)
-drop-take zero n t = rw zero-add
-drop-take (suc a) n [] = rw (suc-add, take-nil)
-drop-take (suc a) n (x ∷ t) = rw suc-add (drop-take a n t)
 
 pub part-below : (s vs : List ℕ) (i a n : ℕ) → a + n ≤ i → take n (drop a (sets s i vs)) ≡ take n (drop a s)
 part-below s vs i a n h =

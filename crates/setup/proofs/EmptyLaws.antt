@@ -8,12 +8,13 @@ use lib.ListN.{length, drop, replicate, length-replicate, length-drop}
 use lib.Seq.{length-take-le}
 use borrow.Rule.Slice.PartMut.{putMid, midOf, same-len-mid, drop-put}
 use Rattle.layout.proofs.StoreLaws.{mid-put}
+use Rattle.layout.proofs.StoreLaws.{all-take, all-drop}
 use Rattle.workspace.specs.Parts.{part, workspaceSize, memorySize, framePlace, frameSize, noteSize, registersSize, tablesPlace, memoryPart, framePart, notePart, tables}
 use Rattle.workspace.specs.Variables.{variablesIn}
 use Rattle.workspace.specs.Note.{pendingIn}
 use Rattle.workspace.specs.View.{view}
 use Rattle.workspace.proofs.PartLaws.{part-part}
-use Rattle.workspace.proofs.ClearLaws.{Zeros, zeros-replicate, zeros-take, zeros-drop, variables-none, pending-none, entries-none, sorted-none}
+use Rattle.workspace.proofs.ClearLaws.{Zeros, zeros-replicate, variables-none, pending-none, entries-none, sorted-none}
 use Rattle.setup.specs.Post.{Empties}
 
 abbrev lent : ℕ
@@ -30,8 +31,8 @@ empties w s room e =
     let frame : framePart w′ ≡ part 0 frameSize s = sym (part-part framePlace lent 0 frameSize w′ (omega arith)) ∙ ap (part 0 frameSize) here in
     let note : notePart w′ ≡ part frameSize noteSize s = sym (part-part framePlace lent frameSize noteSize w′ (omega arith)) ∙ ap (part frameSize noteSize) here in
     let size : length w′ ≡ length w = same-len-mid framePlace lent w s same in
-    let f : variablesIn (framePart w′) ≡ [] = ap variablesIn frame ∙ variables-none (part 0 frameSize s) (zeros-take frameSize (drop 0 s) (zeros-drop 0 s z)) in
-    let p : pendingIn (notePart w′) ≡ none = ap pendingIn note ∙ pending-none (part frameSize noteSize s) (zeros-take noteSize (drop frameSize s) (zeros-drop frameSize s z)) in
+    let f : variablesIn (framePart w′) ≡ [] = ap variablesIn frame ∙ variables-none (part 0 frameSize s) (all-take (λ b. b ≡ 0) frameSize (drop 0 s) (all-drop (λ b. b ≡ 0) 0 s z)) in
+    let p : pendingIn (notePart w′) ≡ none = ap pendingIn note ∙ pending-none (part frameSize noteSize s) (all-take (λ b. b ≡ 0) noteSize (drop frameSize s) (all-drop (λ b. b ≡ 0) frameSize s z)) in
     let m : length (memoryPart w′) ≡ memorySize = length-take-le memorySize w′ (omega (arith, size)) in
     record {
       holds = rw (f, p, entries-none (memoryPart w′));

@@ -1,6 +1,6 @@
 -- Streams grow by one piece after the other (`streamed-more`, `counted-more`), and what stands in the part in the end. Assumes nothing.
 use mathlib.Core.Path.{_≡_, refl, sym, ap, _∙_}
-use mathlib.Core.Bool.{Bool, true, false, cond, _&&_}
+use mathlib.Core.Bool.{Bool, true, false, cond, _&&_, false≢true}
 use mathlib.Core.List.{List, [], _∷_, _++_, map, append-assoc, append-nil}
 use Prim.Native.Nat.{ℕ, _+_, _-_, _≤_, _<_}
 use native.Mathlib.Omega.{arith}
@@ -24,10 +24,7 @@ placed-fits out at piece h = rw (le-leb (at + length piece) (length out) h)
 -- the code: whether a piece of n bytes goes in is b
 pub piece-room : (on : Bool) (at n l : ℕ) (b : Bool) → b ≡ (on && leb (at + n) l) → b ≡ true → at + n ≤ l
 piece-room true at n l b e h = leb-true (at + n) l (sym e ∙ h)
-piece-room false at n l b e h = absurd (never (sym e ∙ h))
-  where
-    never : false ≡ true → ⊥
-    never q = let z : _≡_ {A = ℕ} 0 1 = cc in omega arith
+piece-room false at n l b e h = absurd (false≢true (sym e ∙ h))
 
 placed-by : (on : Bool) (out piece : List ℕ) (at n : ℕ) (b t : Bool) → length piece ≡ n → b ≡ (on && leb (at + n) (length out)) → b ≡ t
     → placed on out at piece ≡ cond t (sets out at piece) out

@@ -8,6 +8,7 @@ use lib.Dec.{ltb, eqb, lit<}
 use lib.ListN.{length, getD, getElem?}
 use Rattle.layout.specs.Each.{Each}
 use Rattle.layout.specs.Text.{text, same}
+use Rattle.layout.proofs.StoreLaws.{all-append}
 use Rattle.layout.proofs.FormatLaws.{Below}
 use Rattle.value.specs.declared.Ty.{Ty}
 use Rattle.value.specs.declared.Val.{Val}
@@ -39,10 +40,6 @@ each-get P (x ∷ xs) (suc k) h = each-get P xs k (h .1)
 each-snoc : {X : Type 0} (P : X → Type 0) (xs : List X) (x : X) → Each P xs → P x → Each P (xs ++ (x ∷ []))
 each-snoc P [] x h p = (p, tt)
 each-snoc P (y ∷ xs) x h p = (h .0, each-snoc P xs x (h .1) p)
-
-each-join : {X : Type 0} (P : X → Type 0) (xs ys : List X) → Each P xs → Each P ys → Each P (xs ++ ys)
-each-join P [] ys h g = g
-each-join P (x ∷ xs) ys h g = (h .0, each-join P xs ys (h .1) g)
 
 module _ (n : ℕ) where
   -- ---- what a program holds
@@ -385,5 +382,5 @@ module _ (n : ℕ) where
         steps = o .after .steps;
         stop = ended (run w (acts P l) (start P l) .end) (o .end);
         variables = added-fits (P .types) (P .parameters ++ P .locals) (run w (acts P l) (start P l) .after .variables)
-            (each-join DeclaredFits (P .parameters) (P .locals) (p .parameters) (p .locals)) (o .after .variables);
+            (all-append DeclaredFits (P .parameters) (P .locals) (p .parameters) (p .locals)) (o .after .variables);
       }

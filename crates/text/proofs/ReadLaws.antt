@@ -1,6 +1,6 @@
 -- Fields of a body, read one by one. Assumes nothing.
 use mathlib.Core.Path.{_≡_, refl, sym, ap, ap₂, _∙_, subst}
-use mathlib.Core.Bool.{Bool, true}
+use mathlib.Core.Bool.{Bool}
 use mathlib.Core.List.{List}
 use mathlib.Core.Option.{none, some}
 use Prim.Native.Nat.{ℕ, zero, suc, _+_, _-_, _*_, _<_}
@@ -9,6 +9,7 @@ use lib.ListN.{length, take, drop, length-drop}
 use lib.Seq.{take-all}
 use Rattle.layout.specs.Number.{numberAt}
 use Rattle.layout.specs.Format.{boolOf}
+use Rattle.layout.proofs.FormatLaws.{flag-set}
 use Rattle.value.specs.declared.Val.{Val}
 use Rattle.files.specs.Program.{flagged}
 use Rattle.value.specs.Encoding.{valAt}
@@ -19,10 +20,6 @@ use Rattle.text.specs.Read.{addressIn, writtenIf, wroteIn, StepThere, Va
 flagged-some : (f a : ℕ) → (f ≡ 0 → ⊥) → flagged f a ≡ some a
 flagged-some zero a h = absurd (h refl)
 flagged-some (suc f) a h = refl
-
-flag-true : (f : ℕ) → (f ≡ 0 → ⊥) → boolOf f ≡ true
-flag-true zero h = absurd (h refl)
-flag-true (suc f) h = refl
 
 module _ (s : List ℕ) (i : ℕ) {f : ℕ} (e : f ≡ numberAt s i 1) where
   pub address-none : f ≡ 0 → none ≡ addressIn s i
@@ -41,7 +38,7 @@ module _ (s : List ℕ) {f : ℕ} (e : f ≡ numberAt s 17 1) where
   pub wrote-some : {k : ℕ} {v : Val} → (f ≡ 0 → ⊥) → k ≡ numberAt s 18 2 → v ≡ valAt s 20 → some (k, v) ≡ wroteIn s
   unfolding wroteIn
   wrote-some {k} {v} h p q =
-      ap (λ (b : Bool). writtenIf b (k, v)) (sym (flag-true f h))
+      ap (λ (b : Bool). writtenIf b (k, v)) (sym (flag-set f h))
       ∙ ap (λ (n : ℕ). writtenIf (boolOf n) (k, v)) e
       ∙ ap₂ (λ (x : ℕ) (y : Val). writtenIf (boolOf (numberAt s 17 1)) (x, y)) p q
 

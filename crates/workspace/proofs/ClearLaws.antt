@@ -4,10 +4,11 @@ use mathlib.Core.List.{List, [], _∷_}
 use mathlib.Core.Option.{none}
 use Prim.Native.Nat.{ℕ, zero, suc, _*_, _≤_}
 use native.Mathlib.Omega.{arith}
-use lib.ListN.{length, take, drop, replicate, length-replicate}
+use lib.ListN.{length, drop, replicate, length-replicate}
 use lib.Seq.{length-take-le}
 use Rattle.layout.specs.Each.{Each}
 use Rattle.layout.specs.Number.{num, numberAt}
+use Rattle.layout.proofs.StoreLaws.{all-take, all-drop}
 use Rattle.memory.specs.Entries.{Sorted, entries, rowOf, first}
 use Rattle.workspace.specs.Parts.{part, workspaceSize, memorySize, framePlace, frameSize, notePlace, noteSize, tablesPlace, declaredSize, memoryPart, framePart, notePart, tables, declaredPart}
 use Rattle.workspace.specs.Variables.{slotSize, nameLimit, slotAt, variablesIn}
@@ -25,23 +26,13 @@ pub zeros-replicate : (n : ℕ) → Zeros (replicate n 0)
 zeros-replicate zero = tt
 zeros-replicate (suc n) = (refl, zeros-replicate n)
 
-pub zeros-take : (n : ℕ) (s : List ℕ) → Zeros s → Zeros (take n s)
-zeros-take zero s z = tt
-zeros-take (suc n) [] z = tt
-zeros-take (suc n) (b ∷ s) z = (z .0, zeros-take n s (z .1))
-
-pub zeros-drop : (n : ℕ) (s : List ℕ) → Zeros s → Zeros (drop n s)
-zeros-drop zero s z = z
-zeros-drop (suc n) [] z = tt
-zeros-drop (suc n) (b ∷ s) z = zeros-drop n s (z .1)
-
 zeros-num : (s : List ℕ) → Zeros s → num s ≡ 0
 zeros-num [] z = refl
 zeros-num (b ∷ s) z = omega (arith, z .0, zeros-num s (z .1))
 
 zeros-number : (s : List ℕ) (i k : ℕ) → Zeros s → numberAt s i k ≡ 0
 unfolding numberAt
-zeros-number s i k z = zeros-num (part i k s) (zeros-take k (drop i s) (zeros-drop i s z))
+zeros-number s i k z = zeros-num (part i k s) (all-take (λ b. b ≡ 0) k (drop i s) (all-drop (λ b. b ≡ 0) i s z))
 
 slot-none : (f : List ℕ) (x : ℕ) → Zeros f → slotAt f x ≡ none
 unfolding slotAt
@@ -57,7 +48,7 @@ pending-none p z = rw (zeros-number p 0 1 z, pendingIn)
 
 declared-none : (t : List ℕ) (x : ℕ) → Zeros t → declaredAt t x ≡ none
 unfolding declaredAt declaredPart
-declared-none t x z = no-code (numberAt (declaredPart t) x 1) (zeros-number (declaredPart t) x 1 (zeros-take declaredSize t z))
+declared-none t x z = no-code (numberAt (declaredPart t) x 1) (zeros-number (declaredPart t) x 1 (all-take (λ b. b ≡ 0) declaredSize t z))
 
 pub entries-none : (s : List ℕ) → entries s 0 ≡ []
 unfolding entries rowOf
@@ -70,13 +61,13 @@ sorted-none s h = record { room = h; placed = omega arith; ascending = rw (entri
 zeros-cleared : (w : List ℕ) → workspaceSize ≤ length w → Zeros w → Cleared w
 unfolding view memoryPart framePart notePart tables
 zeros-cleared w room z =
-    let f : variablesIn (framePart w) ≡ [] = variables-none (framePart w) (zeros-take frameSize (drop framePlace w) (zeros-drop framePlace w z)) in
-    let p : pendingIn (notePart w) ≡ none = pending-none (notePart w) (zeros-take noteSize (drop notePlace w) (zeros-drop notePlace w z)) in
+    let f : variablesIn (framePart w) ≡ [] = variables-none (framePart w) (all-take (λ b. b ≡ 0) frameSize (drop framePlace w) (all-drop (λ b. b ≡ 0) framePlace w z)) in
+    let p : pendingIn (notePart w) ≡ none = pending-none (notePart w) (all-take (λ b. b ≡ 0) noteSize (drop notePlace w) (all-drop (λ b. b ≡ 0) notePlace w z)) in
     let l : length (memoryPart w) ≡ memorySize = length-take-le memorySize w (omega arith) in
     record {
       holds = rw (f, p, entries-none (memoryPart w));
       fit = record { room = room; sorted = sorted-none (memoryPart w) (omega (arith, l)); few = rw p (omega arith) };
-      declared = λ x. declared-none (tables w) x (zeros-drop tablesPlace w z);
+      declared = λ x. declared-none (tables w) x (all-drop (λ b. b ≡ 0) tablesPlace w z);
     }
 
 pub cleared : (w w′ : List ℕ) → workspaceSize ≤ length w → w′ ≡ replicate (length w) 0 → Cleared w′

@@ -10,6 +10,7 @@ use lib.ListN.{length}
 use lib.Seq.{sets, take-all}
 use Rattle.layout.specs.Number.{num, numberAt}
 use Rattle.layout.specs.Format.{boolOf}
+use Rattle.layout.proofs.FormatLaws.{flag-set}
 use Rattle.value.specs.declared.Val.{Val}
 use Rattle.memory.specs.Overlay.{find, store}
 use Rattle.memory.proofs.OverlayLaws.{below, equal, above, compared}
@@ -20,7 +21,7 @@ use Rattle.workspace.specs.declared.variables.Slot.the-variants.{Set, Un
 use Rattle.workspace.specs.Post.{slotAs}
 use Rattle.workspace.proofs.PartLaws.{part-part, part-above, part-below, part-stored, number-same, number-part}
 use Rattle.value.proofs.EncodingLaws.{length-valBytes}
-use Rattle.workspace.proofs.ValueLaws.{val-same, val-stored, flag-set}
+use Rattle.workspace.proofs.ValueLaws.{val-same, val-stored}
 use Rattle.workspace.proofs.VariableLaws.{those-find, those-store}
 
 abbrev slotIf : Bool → Val → Option Val

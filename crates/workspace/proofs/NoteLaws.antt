@@ -13,14 +13,13 @@ use Rattle.layout.specs.Number.{le, num, numberAt, putNumber}
 use Rattle.layout.specs.Format.{number, reads, boolOf}
 use Rattle.layout.proofs.NumberLaws.{length-le, num-le, le-num}
 use Rattle.layout.proofs.StoreLaws.{each-take, each-drop, drop-sets, take-sets, drop-sets-at}
-use Rattle.layout.proofs.FormatLaws.{length-reads}
+use Rattle.layout.proofs.FormatLaws.{flag-set, length-reads}
 use Rattle.memory.proofs.EntryLaws.{Sized, number-sized, reads-add, reads-take, writes-reads}
 use Rattle.workspace.specs.Parts.{part, workspaceSize, notePlace, noteSize, framePart, notePart}
 use Rattle.workspace.specs.Note.{takenLimit, names, namesBytes, pendingIn, noted, taken, withName, Few, Open}
 use Rattle.workspace.specs.View.{Changes, leaving, noting}
 use Rattle.workspace.proofs.PartLaws.{part-part, part-above, part-stored, drop-sets-in, number-part}
 use Rattle.value.proofs.EncodingLaws.{flag-read}
-use Rattle.workspace.proofs.ValueLaws.{flag-set}
 use Rattle.workspace.proofs.ViewLaws.{Becomes, length-note, note-stored, changes}
 
 abbrev noteIf : Bool → List ℕ → Option (List ℕ)

@@ -1,25 +1,15 @@
 -- Parts of a list: a part of a part, and a part after bytes are stored in it or elsewhere. Assumes nothing.
 use mathlib.Core.Path.{_≡_, refl, sym, ap, _∙_}
 use mathlib.Core.List.{List, [], _∷_, _++_}
-use Prim.Native.Nat.{ℕ, zero, suc, _+_, _-_, _≤_}
-use native.Mathlib.Nat.{zero-add, suc-add}
+use Prim.Native.Nat.{ℕ, suc, _+_, _-_, _≤_}
 use native.Mathlib.Omega.{arith}
 use lib.ListN.{length, take, drop, set}
-use lib.Seq.{sets, take-nil, take-take, drop-drop, drop-at, take-at, take-set-lt, take-length, length-take-le}
+use lib.Seq.{sets, drop-drop, drop-at, take-at, take-set-lt, take-length, length-take-le}
 use Rattle.layout.specs.Number.{numberAt, num}
-use Rattle.layout.proofs.StoreLaws.{sets-part, take-sets, drop-sets, drop-sets-at}
+use Rattle.layout.proofs.StoreLaws.{sets-part, take-sets, drop-sets, drop-sets-at, part-take}
 use Rattle.workspace.specs.Parts.{part}
 
 module _ {A : Type 0} where
-  drop-take : (a k : ℕ) (s : List A) → drop a (take (a + k) s) ≡ part a k s
-  drop-take zero k s = rw zero-add
-  drop-take (suc a) k [] = rw (take-nil, take-nil)
-  drop-take (suc a) k (x ∷ s) = rw suc-add (drop-take a k s)
-
-  -- a part within the first p elements
-  pub part-take : (a k p : ℕ) (s : List A) → a + k ≤ p → part a k (take p s) ≡ part a k s
-  part-take a k p s h = sym (drop-take a k (take p s)) ∙ ap (drop a) (take-take (a + k) p s h) ∙ drop-take a k s
-
   pub part-front : (a k p : ℕ) (s t : List A) → a + k ≤ p → take p t ≡ take p s → part a k t ≡ part a k s
   part-front a k p s t h e = sym (part-take a k p t h) ∙ ap (part a k) e ∙ part-take a k p s h
 
@@ -81,10 +71,6 @@ number-part s a n d k h = ap num (part-part a n d k s h)
 pub number-stored : (s vs : List ℕ) (i d k : ℕ) → i + length vs ≤ length s → d + k ≤ length vs → numberAt (sets s i vs) (i + d) k ≡ numberAt vs d k
 unfolding numberAt
 number-stored s vs i d k h l = ap num (part-stored i d k s vs h l)
-
-pub number-above : (s vs : List ℕ) (i j k : ℕ) → j + k ≤ i → numberAt (sets s i vs) j k ≡ numberAt s j k
-unfolding numberAt
-number-above s vs i j k h = ap num (part-above j k i s vs h)
 
 pub number-below : (s vs : List ℕ) (i j k : ℕ) → i + length vs ≤ j → numberAt (sets s i vs) j k ≡ numberAt s j k
 unfolding numberAt

@@ -8,7 +8,7 @@ use lib.ListN.{length, drop, length-drop}
 use lib.Seq.{sets, length-sets, take-all, length-take-le}
 use Rattle.layout.specs.Number.{le, num, numberAt, putNumber}
 use Rattle.layout.proofs.NumberLaws.{length-le, num-le}
-use Rattle.layout.proofs.StoreLaws.{take-sets, drop-sets}
+use Rattle.layout.proofs.StoreLaws.{take-sets, drop-sets, number-above}
 use Rattle.value.specs.declared.Val.{Val}
 use Rattle.memory.proofs.OverlayLaws.{below, equal, above, compared}
 use Rattle.workspace.specs.Parts.{workspaceSize, memorySize, framePlace, frameSize, notePlace, noteSize, registersPlace, registersSize, tablesPlace, memoryPart, framePart, notePart, registersPart, tables}
@@ -16,7 +16,7 @@ use Rattle.value.specs.Encoding.{valBytes, valAt, Whole}
 use Rattle.workspace.specs.Registers.{wordCount, valuesPlace, wordAt, valueAt}
 use Rattle.workspace.specs.View.{view}
 use Rattle.workspace.specs.Post.{Aside, SetsWord, SetsValue}
-use Rattle.workspace.proofs.PartLaws.{part-part, part-sets, part-above, part-below, number-part, number-stored, number-above, number-below}
+use Rattle.workspace.proofs.PartLaws.{part-part, part-sets, part-above, part-below, number-part, number-stored, number-below}
 use Rattle.value.proofs.EncodingLaws.{length-valBytes}
 use Rattle.workspace.proofs.ValueLaws.{val-same, val-stored}
 

@@ -9,7 +9,7 @@ use native.Mathlib.Omega.{arith}
 use lib.ListN.{length, take, drop, length-drop}
 use lib.Seq.{sets, length-sets, take-take, drop-drop, length-take-le}
 use Rattle.layout.specs.Number.{le, num, numberAt, putNumber}
-use Rattle.layout.proofs.StoreLaws.{take-sets}
+use Rattle.layout.proofs.StoreLaws.{take-sets, number-above}
 use Rattle.value.specs.declared.Ty.{Ty}
 use Rattle.spelling.specs.declared.Pointee.the-variants.{Of, NoPointer}
 use Rattle.memory.proofs.OverlayLaws.{below, equal, above, compared}
@@ -19,7 +19,7 @@ use Rattle.workspace.specs.Types.{typeLimit, codeOf, codeIf, typeOfCode,
 use Rattle.workspace.specs.View.{view}
 use Rattle.workspace.specs.declared.types.Declaration.the-variants.{As, Nothing}
 use Rattle.workspace.specs.Post.{declarationAs, pointeeAs, Kept, SameIndexes, Declares, PutsType}
-use Rattle.workspace.proofs.PartLaws.{part-front, part-sets, part-below, drop-sets-in, take-sets-in, number-part, number-stored, number-above, number-below}
+use Rattle.workspace.proofs.PartLaws.{part-front, part-sets, part-below, drop-sets-in, take-sets-in, number-part, number-stored, number-below}
 use Rattle.workspace.proofs.CodeLaws.{code-small, code-back, if-small, if-back, some-code, no-code}
 
 -- ---- what stands before the tables

@@ -2,7 +2,7 @@
 use mathlib.Core.Path.{_≡_, refl, sym, _∙_}
 use mathlib.Core.Bool.{Bool, true, false}
 use mathlib.Core.List.{List}
-use Prim.Native.Nat.{ℕ, zero, suc, _+_, _≤_}
+use Prim.Native.Nat.{ℕ, _+_, _≤_}
 use native.Mathlib.Nat.{add-zero}
 use native.Mathlib.Omega.{arith}
 use lib.ListN.{length}
@@ -43,7 +43,3 @@ val-back v h =
 pub val-stored : (s vs : List ℕ) (i d : ℕ) (v : Val) → i + length vs ≤ length s → d + 14 ≤ length vs → part d 14 vs ≡ valBytes v → Whole v → valAt (sets s i vs) (i + d) ≡ v
 val-stored s vs i d v h l e w =
     val-same (sets s i vs) (valBytes v) (i + d) 0 (part-stored i d 14 s vs h l ∙ e ∙ sym (take-all 14 (valBytes v) (omega (arith, length-valBytes v)))) ∙ val-back v w
-
-pub flag-set : (n : ℕ) → (n ≡ 0 → ⊥) → boolOf n ≡ true
-flag-set zero h = absurd (h refl)
-flag-set (suc n) h = refl
