@@ -28,9 +28,13 @@ abbrev pub returnsAs : Returns → Val → Val
 returnsAs (As t) v = castTo v t
 returnsAs Void v = v
 
--- the bodies and the facts are those of a program
-pub record Told (nodes statements blocks : List ℕ) (f : Facts) (P : Program) : Type 0 where
-  pub spelled : P .blocks ≡ blocksFrom (length blocks) nodes statements blocks 0 0
+-- the facts are those of a program: what it does with a value that it returns, and the numbers of the two names by which an Intrinsic ends a run
+pub record Named (f : Facts) (P : Program) : Type 0 where
   pub returned : (v : Val) → returnedAs P v ≡ returnsAs (f .returns) v
   pub unreachable : (x : ℕ) → x < 65536 → same (nameOf P x) (text "__builtin_unreachable") ≡ eqb x (f .unreachable)
   pub halted : (x : ℕ) → x < 65536 → same (nameOf P x) (text "__analysis_halted") ≡ eqb x (f .halted)
+
+-- and the bodies are
+pub record Told (nodes statements blocks : List ℕ) (f : Facts) (P : Program) : Type 0 where
+  pub spelled : P .blocks ≡ blocksFrom (length blocks) nodes statements blocks 0 0
+  pub named : Named f P

@@ -10,18 +10,16 @@ use Rattle.layout.specs.Text.{text, same}
 use Rattle.value.specs.declared.Ty.{Ty}
 use Rattle.spelling.specs.Spelling.{typeOf}
 use Rattle.files.specs.FileTable.{body}
-use Rattle.files.specs.Items.{readFrom, reading}
+use Rattle.files.specs.Items.{readFrom, reading, every}
 use Rattle.files.specs.Names.{namesIn}
 use Rattle.files.specs.WorldFile.{symbolsOk, regionsIn}
-use Rattle.files.specs.Items.{every}
 use Rattle.files.specs.Refusal.{routineRefusal, worldOk, callOk}
 use Rattle.files.specs.Program.{Program, textsIn, programOf}
-use Rattle.files.proofs.Accepted.{call}
+use Rattle.files.proofs.Accepted.{call, body-short}
 use Rattle.index.specs.Texts.{Texts, textCount}
 use Rattle.index.specs.Symbols.{Symbols}
 use Rattle.index.specs.Regions.{Regions}
 use Rattle.index.specs.Blocks.{Blocks}
-use Rattle.files.proofs.Accepted.{body-short}
 use Rattle.index.proofs.Accepted.{names-read, types-read, routine-types, routine-blocks, world-symbols, world-regions}
 use Rattle.index.proofs.RegionPlaces.{regions-accepted}
 use Rattle.index.proofs.TextPlaces.{types-count}
@@ -93,9 +91,7 @@ knows r {names} {types} {head} {i = i} {R = R} p q o g a b c =
     let e : getD (textsIn types) i [] ≡ getD (textsIn (body r 1)) (numberAt (body r 2) 10 2) [] = ap₂ (λ (l : List ℕ) (j : ℕ). getD (textsIn l) j []) q (g ∙ ap (λ (l : List ℕ). numberAt l 10 2) o) in
     record {
       count = refl;
-      returned = subst (λ (l : List ℕ). Returning l R) e a .is;
-      unreachable = rw p at (b .is);
-      halted = rw p at (c .is);
+      named = record { returned = subst (λ (l : List ℕ). Returning l R) e a .is; unreachable = rw p at (b .is); halted = rw p at (c .is) };
     }
 
 -- ---- bodies by their names
@@ -108,7 +104,7 @@ pub facts-blocks : {b B w w′ : List ℕ} {n : ℕ} {f : Facts} {P : Program} �
 facts-blocks {B = B} {w} {w′} e x k = subst (IndexesBlocks B w w′) (sym (k .count)) (rw e at x)
 
 pub facts-known : {n : ℕ} {f : Facts} {P : Program} → Knows P n f → Knows P (f .blocks) f
-facts-known k = record { count = refl; returned = k .returned; unreachable = k .unreachable; halted = k .halted }
+facts-known k = record { count = refl; named = k .named }
 
 pub call-room : (c : List ℕ) {b : List ℕ} → callOk c ≡ true → b ≡ body c 0 → 8 ≤ length b
 call-room c h e = omega (arith, call c h .room, ap length e)

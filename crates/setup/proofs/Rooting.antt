@@ -68,7 +68,7 @@ constant-stands r n h = let c = constant r n h in stands-at r (c .routine) n (c 
 
 pub told : (r : List ℕ) {count : ℕ} {f : Facts} → Knows (programOf r) count f → Told (body r 3) (body r 4) (body r 5) f (programOf r)
 unfolding programOf
-told r k = record { spelled = refl; returned = k .returned; unreachable = k .unreachable; halted = k .halted }
+told r k = record { spelled = refl; named = k .named }
 
 -- ---- what the tables stand for
 

@@ -13,7 +13,6 @@ use Rattle.spelling.specs.Spelling.{typeOf}
 use Rattle.files.specs.Program.{Program, textsIn, programOf}
 use Rattle.files.specs.Call.{limitsIn}
 use Rattle.definition.specs.Walk.{declaredIn}
-use Rattle.definition.specs.Statements.{nameOf, returnedAs}
 use Rattle.index.specs.Texts.{textCount}
 use Rattle.index.specs.Symbols.{SymbolsIndexed}
 use Rattle.index.specs.Regions.{RegionsIndexed}
@@ -25,7 +24,7 @@ use Rattle.workspace.specs.Post.{Kept, SameTypes}
 use Rattle.hosting.specs.declared.Returns.{Returns}
 use Rattle.hosting.specs.declared.Facts.{Facts}
 use Rattle.hosting.specs.Scene.{pointee}
-use Rattle.hosting.specs.Routine.{returnsAs}
+use Rattle.hosting.specs.Routine.{returnsAs, Named}
 use Rattle.setup.specs.Heads.{variables, Typed, starting, ending}
 
 -- ---- texts
@@ -41,9 +40,7 @@ pub record Returning (returns : List ℕ) (r : Returns) : Type 0 where
 -- the facts of a program of so many blocks
 pub record Knows (P : Program) (blocks : ℕ) (f : Facts) : Type 0 where
   pub count : f .blocks ≡ blocks
-  pub returned : (v : Val) → returnedAs P v ≡ returnsAs (f .returns) v
-  pub unreachable : (x : ℕ) → x < 65536 → same (nameOf P x) (text "__builtin_unreachable") ≡ eqb x (f .unreachable)
-  pub halted : (x : ℕ) → x < 65536 → same (nameOf P x) (text "__analysis_halted") ≡ eqb x (f .halted)
+  pub named : Named f P
 
 -- ---- tables
 

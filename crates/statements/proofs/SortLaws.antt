@@ -16,10 +16,11 @@ use Rattle.definition.specs.Evaluate.{Env, look, looks}
 use Rattle.definition.specs.Statements.{nameOf, isNamed, isHalted}
 use Rattle.hosting.specs.declared.Facts.{Facts}
 use Rattle.hosting.specs.Stands.{Stands, stands, Shape, a-constant, an-intrinsic, KidsAt, no-kid, a-kid, Fine}
+use Rattle.hosting.specs.Routine.{Named}
 use Rattle.hosting.proofs.Shapes.{intrinsic-kids, kid-here}
 use Rattle.statements.specs.declared.statements.Sort.{Sort}
 use Rattle.statements.specs.declared.statements.Sort.the-variants.{Gives, Unreachable, Halts, Plain}
-use Rattle.statements.specs.Sorts.{Named, sortOf, Sorted}
+use Rattle.statements.specs.Sorts.{sortOf, Sorted}
 
 -- ---- the node of a tree that stands
 

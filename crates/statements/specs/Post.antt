@@ -30,7 +30,7 @@ use Rattle.hosting.specs.Stands.{Stands}
 use Rattle.hosting.specs.Scene.{Given, Ready}
 use Rattle.hosting.specs.Ending.{Ending, ended, short, endOf, doneOf}
 use Rattle.hosting.specs.Runs.{Kept, Runs}
-use Rattle.hosting.specs.Routine.{returnsAs}
+use Rattle.hosting.specs.Routine.{returnsAs, Named}
 use Rattle.statements.specs.declared.terminators.Next.{Next}
 use Rattle.statements.specs.declared.terminators.Next.the-variants.{Stops, Goes}
 use Rattle.statements.specs.declared.terminators.Moved.{Moved}
@@ -39,9 +39,7 @@ use Rattle.statements.specs.declared.statements.Acted.{Acted}
 use Rattle.statements.specs.declared.statements.Stepped.{Stepped}
 use Rattle.statements.specs.declared.terminators.Led.{Led}
 use Rattle.statements.specs.Endings.{bindEnd, triedEnd, actsEnd, haltEnd, HaltIs, leadEnd, nextEnd}
-use Rattle.statements.specs.Sorts.{Named}
-use Rattle.statements.specs.Steps.{stepAs}
-use Rattle.statements.specs.Steps.{withRecorded}
+use Rattle.statements.specs.Steps.{stepAs, withRecorded}
 
 -- ---- statements
 

@@ -2,28 +2,20 @@
 use mathlib.Core.Path.{_≡_}
 use mathlib.Core.Bool.{true, false}
 use mathlib.Core.List.{List}
-use Prim.Native.Nat.{ℕ, _+_, _*_, _<_, _≤_}
+use Prim.Native.Nat.{ℕ, _+_, _*_, _≤_}
 use lib.ListN.{length}
-use lib.Dec.{eqb}
-use Rattle.value.specs.declared.Val.{Val}
 use Rattle.layout.specs.Number.{numberAt}
-use Rattle.layout.specs.Text.{text, same}
+use Rattle.layout.specs.Text.{text}
 use Rattle.files.specs.Nodes.{kindOf, spanOf}
 use Rattle.files.specs.Program.{Return, Program, Tree, treeAt}
 use Rattle.definition.specs.Term.{Term, is}
 use Rattle.definition.specs.Evaluate.{Env, look}
-use Rattle.definition.specs.Statements.{nameOf, returnedAs, isNamed, isHalted}
+use Rattle.definition.specs.Statements.{isNamed, isHalted}
 use Rattle.hosting.specs.declared.Facts.{Facts}
 use Rattle.hosting.specs.Stands.{Stands, Fine}
-use Rattle.hosting.specs.Routine.{returnsAs}
+use Rattle.hosting.specs.Routine.{Named}
 use Rattle.statements.specs.declared.statements.Sort.{Sort}
 use Rattle.statements.specs.declared.statements.Sort.the-variants.{Gives, Unreachable, Halts, Plain}
-
--- what is told of a program beside its bodies
-pub record Named (f : Facts) (P : Program) : Type 0 where
-  pub returned : (v : Val) → returnedAs P v ≡ returnsAs (f .returns) v
-  pub unreachable : (x : ℕ) → x < 65536 → same (nameOf P x) (text "__builtin_unreachable") ≡ eqb x (f .unreachable)
-  pub halted : (x : ℕ) → x < 65536 → same (nameOf P x) (text "__analysis_halted") ≡ eqb x (f .halted)
 
 -- each statement's root is a tree
 pub record RootsOf (nodes statements : List ℕ) : Type 0 where

@@ -29,7 +29,7 @@ use Rattle.hosting.specs.Scene.{Given, Scene, Ready, Meant}
 use Rattle.hosting.specs.Held.{paidTally}
 use Rattle.hosting.specs.Ending.{Ending, ended, short}
 use Rattle.hosting.specs.Runs.{Kept, Runs}
-use Rattle.hosting.specs.Routine.{Rooted, Told}
+use Rattle.hosting.specs.Routine.{Rooted, Named, Told}
 use Rattle.hosting.specs.Walking.{stopEnd}
 use Rattle.hosting.proofs.Running.{goes, halts, acts, assoc, told, done-runs}
 use Rattle.hosting.proofs.Keeping.{kept-ready}
@@ -38,7 +38,6 @@ use Rattle.statements.specs.declared.terminators.Next.{Next}
 use Rattle.statements.specs.declared.terminators.Next.the-variants.{Stops, Goes}
 use Rattle.statements.specs.declared.terminators.Moved.{Moved}
 use Rattle.statements.specs.Endings.{stopsEnd, placeOf, nextEnd}
-use Rattle.statements.specs.Sorts.{Named}
 use Rattle.walk.specs.Spots.{PlacedAt}
 use Rattle.walk.specs.Units.{Balanced, paidCounts, withUnits}
 use Rattle.statements.specs.Post.{blockOf}
@@ -157,9 +156,6 @@ paid-fits (suc n) false t h f = record { fits = omega arith }
 abbrev paidIn : Spot → Counts → Tally
 paidIn s a = paidTally (a .tally .left) (not (s .inside)) (a .tally)
 
-names-told : {nodes ss blocks : List ℕ} {f : Facts} {P : Program} → Told nodes ss blocks f P → Named f P
-names-told t = record { returned = t .returned; unreachable = t .unreachable; halted = t .halted }
-
 module _ (g : Given) {ss blocks part : List ℕ} (f : Facts) {s : Spot} {p : Place} (all : Rooted (g .nodes) ss blocks part (f .blocks)) (is : Placed part (s .block) p) (l : s .block < f .blocks)
     (at : PlacedAt blocks (f .blocks) s) where
   start-is : p .start ≡ blockStart blocks (s .block)
@@ -188,7 +184,7 @@ module _ (g : Given) {ss blocks part : List ℕ} (f : Facts) {s : Spot} {p : Pla
         → Kept (nextEnd 0 n) (Ready g w a) → Kept (nextEnd 0 n) (tables w ≡ tables w₀) → Stays blocks p (s .block) n → TurnsTo g ss blocks f s w₀ o₀ a₀ n w o (withUnits (paidIn s a₀) a)
     turns-to (Stops stop) run rd same st = λ P told limit.
         walk-stops P limit (placeOf s) (λ x. unitAct P (x .env) (g .nodes) ss blocks p s) w₀ o₀ a₀ (paidIn s a₀ .left) (paid-left (a₀ .tally .left) (not (s .inside)) (a₀ .tally) some) (λ x h. unit-there P (x .env) told)
-        (stopEnd limit stop) (units-kept w₀ (unit-quiet P told w₀) (stopsEnd (stopEnd limit stop)) (run P (names-told told) limit))
+        (stopEnd limit stop) (units-kept w₀ (unit-quiet P told w₀) (stopsEnd (stopEnd limit stop)) (run P (told .named) limit))
     turns-to (Goes q) run rd same st = (
       record {
         ready = kept-ready refl (rd .fit) rd;
@@ -199,7 +195,7 @@ module _ (g : Given) {ss blocks part : List ℕ} (f : Facts) {s : Spot} {p : Pla
       },
       λ P told limit e w′ o′ a′ r.
           walk-goes P limit (placeOf s) (λ x. unitAct P (x .env) (g .nodes) ss blocks p s) w₀ o₀ a₀ (paidIn s a₀ .left) (paid-left (a₀ .tally .left) (not (s .inside)) (a₀ .tally) some) (λ x h. unit-there P (x .env) told)
-          (units-kept w₀ (unit-quiet P told w₀) (ended (walk.goes (placeOf q))) (run P (names-told told) limit)) r,
+          (units-kept w₀ (unit-quiet P told w₀) (ended (walk.goes (placeOf q))) (run P (told .named) limit)) r,
     )
 
 -- as the code does it

@@ -18,7 +18,7 @@ use Rattle.hosting.specs.declared.Walked.{Walked}
 use Rattle.hosting.specs.Scene.{Given, Ready}
 use Rattle.hosting.specs.Ending.{Ending}
 use Rattle.hosting.specs.Runs.{Kept, Runs}
-use Rattle.hosting.specs.Routine.{Told}
+use Rattle.hosting.specs.Routine.{Named, Told}
 use Rattle.hosting.specs.Walking.{stopEnd}
 use Rattle.statements.specs.declared.terminators.Spot.{Spot}
 use Rattle.statements.specs.declared.terminators.Next.{Next}
@@ -26,7 +26,6 @@ use Rattle.statements.specs.declared.terminators.Next.the-variants.{Stops, Goes
 use Rattle.statements.specs.declared.terminators.Moved.{Moved}
 use Rattle.statements.specs.declared.statements.Stepped.{Stepped}
 use Rattle.statements.specs.Endings.{haltEnd, placeOf, nextEnd}
-use Rattle.statements.specs.Sorts.{Named}
 use Rattle.statements.specs.Post.{blockOf}
 use Rattle.walk.specs.Spots.{PlacedAt}
 use Rattle.walk.specs.Units.{Balanced}
