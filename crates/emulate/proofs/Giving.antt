@@ -7,7 +7,7 @@ use Prim.Native.Nat.{ℕ, zero, suc, _≤_, _<_}
 use native.Mathlib.Omega.{arith}
 use lib.ListN.{length, replicate}
 use lib.Dec.{eqb}
-use borrow.Author.Tests.{eq-eqb, ne-eqb}
+use borrow.Author.Tests.{not-true, not-false, eq-eqb, ne-eqb}
 use Rattle.value.specs.declared.Val.{Val}
 use Rattle.files.specs.Refusal.{constantRefusal}
 use Rattle.definition.specs.Act.{Why, End, gave, stopped}
@@ -21,27 +21,19 @@ use Rattle.hosting.specs.declared.Outcome.{Outcome}
 use Rattle.hosting.specs.declared.Outcome.the-variants.{Is, Ends}
 use Rattle.hosting.specs.Ending.{short, whyOf, endOf}
 use Rattle.passes.specs.Evaluating.{EvaluatedIf, Evaluates}
-use Rattle.passes.proofs.Arrival.{some-why}
+use Rattle.hosting.proofs.Reasons.{why-some}
 use Rattle.emulate.specs.Giving.{refusalOf, valueOf}
 
 -- ---- what is given
 
-not-known : (v : Val) (b : Bool) → not b ≡ true → cond b v noVal ≡ noVal
-not-known v false h = refl
-not-known v true h = absurd (let z : _≡_ {A = ℕ} 0 1 = cc in omega arith)
-
 pub unknown-given : (v k : Val) → not (v .known) ≡ true → k ≡ noVal → k ≡ valueOf (Is v)
 unfolding valueOf
-unknown-given v k h e = e ∙ sym (not-known v (v .known) h)
-
-is-known : (b : Bool) → not b ≡ false → b ≡ true
-is-known true h = refl
-is-known false h = absurd (let z : _≡_ {A = ℕ} 0 1 = cc in omega arith)
+unknown-given v k h e = e ∙ sym (ap (λ (b : Bool). cond b v noVal) (not-true (v .known) h))
 
 pub known-given : (v : Val) → not (v .known) ≡ false → valOf true (v .signed) (v .bits) (v .number) ≡ valueOf (Is v)
 unfolding valueOf
 known-given v h =
-    let e = is-known (v .known) h in
+    let e = not-false (v .known) h in
     ap (λ (b : Bool). valOf b (v .signed) (v .bits) (v .number)) (sym e) ∙ ap (λ (b : Bool). cond b v noVal) (sym e)
 
 pub full-number : (s : Short) → s .reason ≡ 0 → 21 ≡ refusalOf (Ends s)
@@ -83,9 +75,10 @@ module _ (routine : List ℕ) (node : ℕ) (workspace₀ : List ℕ) where
     ended-short : (s : Short) (r : ℕ) → s .reason ≡ r → EvaluatedIf (constantRun routine node) (short (whyOf r (s .number))) → Gives (cond (eqb r 0) 21 0) noVal (zeroed workspace₀)
     ended-short s zero e h = constant-by-addresses routine node workspace₀ ok room h
     ended-short s (suc k) e h =
-        let y = some-why (suc k) (s .number) (λ z. omega (arith, z)) in
-        let i : EvaluatedIf (constantRun routine node) (short (some (y .why))) = subst (λ (z : Option Why). EvaluatedIf (constantRun routine node) (short z)) (y .same) h in
-        subst (λ (b : Bool). Gives (cond b 21 0) noVal (zeroed workspace₀)) (sym (ne-eqb (suc k) 0 (λ z. omega (arith, z)))) (value-is (stopped (y .why)) noVal (i .0) refl (i .1))
+        let ne = ne-eqb (suc k) 0 (λ z. omega (arith, z)) in
+        let y = why-some (suc k) (s .number) ne in
+        let i : EvaluatedIf (constantRun routine node) (short (some (y .0))) = subst (λ (z : Option Why). EvaluatedIf (constantRun routine node) (short z)) (y .1) h in
+        subst (λ (b : Bool). Gives (cond b 21 0) noVal (zeroed workspace₀)) (sym ne) (value-is (stopped (y .0)) noVal (i .0) refl (i .1))
 
     outcome-gives : (o : Outcome) → EvaluatedIf (constantRun routine node) (endOf o) → Gives (refusalOf o) (valueOf o) (zeroed workspace₀)
     unfolding refusalOf valueOf

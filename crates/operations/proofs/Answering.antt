@@ -7,7 +7,7 @@ use Prim.Native.Nat.{ℕ, zero, suc, _*_, _<_}
 use native.Mathlib.Omega.{arith}
 use lib.Dec.{eqb}
 use mir.Val.{boolByte}
-use borrow.Author.Tests.{ne-eqb}
+use borrow.Author.Tests.{not-true, not-false, ne-eqb}
 use Rattle.layout.specs.Format.{boolOf}
 use Rattle.value.specs.declared.Ty.{Ty}
 use Rattle.value.specs.declared.Val.{Val}
@@ -37,16 +37,6 @@ use Rattle.operations.specs.Steps.{Gives, GivesShort, Tells, Answers, En
 use Rattle.operations.specs.Steps as steps
 use Rattle.operations.proofs.Registers.{counts-by, how-by, short-by, told-by, counts-kept, result-value, aside-aside, beside-beside, beside-word, beside-value}
 use Rattle.operations.proofs.Going.{by-true, by-false}
-
--- ---- what a test of `!known` shows
-
-pub not-known : (b : Bool) → not b ≡ true → b ≡ false
-not-known false e = refl
-not-known true e = sym e
-
-pub is-known : (b : Bool) → not b ≡ false → b ≡ true
-is-known true e = refl
-is-known false e = sym e
 
 -- ---- put in the registers
 
@@ -193,7 +183,7 @@ note-is true false signed bits number (some xs) = refl
 
 module _ (w : List ℕ) (kind : ℕ) (ok : Bool) (a : Counts) (ea : a ≡ countsIn w) where
   pub noted-short : {s : Short} → not ok ≡ true → s ≡ shortIn w → LeavesNoted w kind ok (record { outcome = Fails s; at = a })
-  noted-short n e = record { at = ea; ends = sym (by-false (did (steps.noted kind (resultIn w) (pendingIn (notePart w)))) (not-known ok n) (sym e)) }
+  noted-short n e = record { at = ea; ends = sym (by-false (did (steps.noted kind (resultIn w) (pendingIn (notePart w)))) (not-true ok n) (sym e)) }
 
   module _ (q : Executed) (v : Val) (h : Bool) (y : not ok ≡ false) (e : v ≡ valueAt (registersPart w) 0) (eh : h ≡ noted (pendingIn (notePart w))) where
     noted-if : (t : Bool) → ((eqb kind 14 || eqb kind 15) && not (v .known)) && not h ≡ t → steps.noted kind (resultIn w) (pendingIn (notePart w)) ≡ noteIf t
@@ -202,7 +192,7 @@ module _ (w : List ℕ) (kind : ℕ) (ok : Bool) (a : Counts) (ea : a ≡ counts
         ∙ ap (λ (b : Bool). noteIf (((eqb kind 14 || eqb kind 15) && not (v .known)) && not b)) (sym eh) ∙ ap noteIf c
 
     noted-as : (t : Bool) → ((eqb kind 14 || eqb kind 15) && not (v .known)) && not h ≡ t → q .at ≡ a → doneOf (q .outcome) ≡ ended (did (noteIf t)) → LeavesNoted w kind ok q
-    noted-as t c eq ed = record { at = eq ∙ ea; ends = ed ∙ sym (by-true (shortIn w) (is-known ok y) (ap (λ (z : act.Note). did z) (noted-if t c))) }
+    noted-as t c eq ed = record { at = eq ∙ ea; ends = ed ∙ sym (by-true (shortIn w) (not-false ok y) (ap (λ (z : act.Note). did z) (noted-if t c))) }
 
     pub noted-unknown : ((eqb kind 14 || eqb kind 15) && not (v .known)) && not h ≡ true → TellsNote a Unknown q → LeavesNoted w kind ok q
     noted-unknown c g = noted-as true c (g .at) (g .ends)

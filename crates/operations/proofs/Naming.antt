@@ -7,7 +7,7 @@ use Prim.Native.Nat.{ℕ, zero, suc, _+_, _*_, _<_, _≤_}
 use native.Mathlib.Omega.{arith}
 use native.Mathlib.Nat.{mod-eq-of-lt}
 use lib.ListN.{length}
-use borrow.Author.Tests.{eq-eqb, ne-eqb}
+use borrow.Author.Tests.{not-true, not-false, eq-eqb, ne-eqb}
 use Rattle.value.specs.declared.Ty.{Ty}
 use Rattle.value.specs.declared.Val.{Val}
 use Rattle.value.specs.Value.{type, knownVal, unknownVal, castTo}
@@ -24,6 +24,7 @@ use Rattle.index.specs.Texts.{textCount}
 use Rattle.index.specs.Answers.{maybeOf, optionOf}
 use Rattle.index.specs.Regions.{RegionsIndexed}
 use Rattle.index.specs.Symbols.{SymbolInside, SymbolsIndexed, AddressOf, SizeOf, symbolNamed}
+use Rattle.index.proofs.BlockFields.{option-maybe}
 use Rattle.index.specs.declared.Maybe.{Maybe}
 use Rattle.index.specs.declared.Maybe.the-variants.{Known}
 use Rattle.stream.specs.declared.Symbol.the-variants as kind
@@ -37,6 +38,7 @@ use Rattle.workspace.specs.declared.variables.Slot.{Slot}
 use Rattle.workspace.specs.declared.variables.Slot.the-variants.{Set, Unset}
 use Rattle.workspace.specs.declared.types.Declaration.{Declaration}
 use Rattle.workspace.specs.declared.types.Declaration.the-variants.{As, Nothing}
+use Rattle.workspace.proofs.CopyLaws.{set-is, unset-is}
 use Rattle.workspace.proofs.LendLaws.{symbols-lent}
 use Rattle.hosting.specs.declared.How.{How}
 use Rattle.hosting.specs.declared.Counts.{Counts}
@@ -59,20 +61,10 @@ use Rattle.operations.proofs.Asking.{asks-as, asks-goes, sends-asks}
 -- ---- answers that may be none
 
 some-if : (k : Bool) (n : ℕ) → not k ≡ false → optional k n ≡ some n
-some-if true n e = refl
-some-if false n e = let z : _≡_ {A = ℕ} 0 1 = cc in absurd (omega arith)
+some-if k n e = ap (λ (b : Bool). optional b n) (not-false k e)
 
 none-if : (k : Bool) (n : ℕ) → not k ≡ true → optional k n ≡ none
-none-if false n e = refl
-none-if true n e = let z : _≡_ {A = ℕ} 0 1 = cc in absurd (omega arith)
-
-was-true : (k : Bool) → not k ≡ false → k ≡ true
-was-true true e = refl
-was-true false e = let z : _≡_ {A = ℕ} 0 1 = cc in absurd (omega arith)
-
-was-false : (k : Bool) → not k ≡ true → k ≡ false
-was-false false e = refl
-was-false true e = let z : _≡_ {A = ℕ} 0 1 = cc in absurd (omega arith)
+none-if k n e = ap (λ (b : Bool). optional b n) (not-true k e)
 
 bits-none : (b : ℕ) → b ≡ 0 → unlessZero b ≡ none
 bits-none zero e = refl
@@ -128,8 +120,7 @@ pub told-known : {answer : Maybe} {n : ℕ} → answer ≡ Known n → some n �
 told-known e = sym (ap optionOf e)
 
 answer-of : (y : Option ℕ) (r : Maybe) → r ≡ maybeOf y → optionOf r ≡ y
-answer-of none r e = ap optionOf e
-answer-of (some n) r e = ap optionOf e
+answer-of y r e = ap optionOf e ∙ option-maybe y
 
 name-fits : (x : ℕ) → x < 512 → cut addressOf x ≡ x
 unfolding cut
@@ -229,14 +220,6 @@ module _ {nodes symbols regions : List ℕ} {n : ℕ} {w o w₁ o₁ : List ℕ}
 
 -- ---- a variable is read
 
-slot-set : (z : Option Val) {v : Val} → Set v ≡ slotAs z → some v ≡ z
-slot-set none e = let z : _≡_ {A = ℕ} 0 1 = cc in absurd (omega arith)
-slot-set (some u) {v} e = let p : v ≡ u = cc in ap (λ (y : Val). some y) p
-
-slot-unset : (z : Option Val) → Unset ≡ slotAs z → none ≡ z
-slot-unset none e = refl
-slot-unset (some u) e = let z : _≡_ {A = ℕ} 0 1 = cc in absurd (omega arith)
-
 abbrev readVal : Env → ℕ → Option Val → Act Val
 readVal E x z = elim z [ some v ↦ done v | none ↦ symbolVal E x ]
 
@@ -254,12 +237,12 @@ slot-here w en es p = sym p ∙ es ∙ ap (λ (y : ℕ). slotAs (find y (variabl
 module _ {w : List ℕ} {x name : ℕ} {slot : Slot} (en : name ≡ x) (es : slot ≡ slotAs (find name (variablesIn (framePart w)))) where
   pub set-read : {r : Bool} {v : Val} {w′ : List ℕ} → slot ≡ Set v → Gives w v r w′ → IfSet x w r w′
   set-read p e = record {
-    yes = λ _ g o. acts (λ h s _. reads-as (s .env) x) (get-goes (λ s. readVal (s .env) x) x (slot-set _ (slot-here w en es p)) (given-goes e));
+    yes = λ _ g o. acts (λ h s _. reads-as (s .env) x) (get-goes (λ s. readVal (s .env) x) x (sym (set-is _ _ (slot-here w en es p))) (given-goes e));
     no = λ q. absurd (true≢false (sym (e .yes) ∙ q));
   }
 
   pub unset-read : slot ≡ Unset → IfSet x w false w
-  unset-read p = record { yes = λ q. absurd (true≢false (sym q)); no = λ _. (slot-unset _ (slot-here w en es p), refl) }
+  unset-read p = record { yes = λ q. absurd (true≢false (sym q)); no = λ _. (sym (unset-is _ (slot-here w en es p)), refl) }
 
 -- one that is not set, as a symbol
 module _ {g : How → Given} {x : ℕ} {w : List ℕ} {r : Bool} {w₁ : List ℕ} (i : IfSet x w r w₁) (q : r ≡ false) where
@@ -385,12 +368,12 @@ module _ {nodes symbols : List ℕ} {n : ℕ} {w o w₁ o₁ : List ℕ} {r₁ :
       pub symbol-stores : {w₃ w′ : List ℕ} (ok : Bool) {r : Bool} → Works (storeVal (r₁ .number) c) w₂ (unitIn ok w₃) w₃ → not ok ≡ false → Tells w₃ (didWrite name c) r w′ → WritesSymbol nodes symbols n v w o r w′ o₂
       symbol-stores {w₃} {w′} ok {r} s k t = record {
         goes = λ regions. from-width regions
-            (acts (λ h x _. stores-as) (goes _ (told (sym (by-true (shortIn w₃) (was-true ok k) refl)) (s .goes (given nodes symbols regions) o₂)) (tells-goes (subst (λ (j : ℕ). Tells w₃ (didWrite j c) r w′) en t))));
+            (acts (λ h x _. stores-as) (goes _ (told (sym (by-true (shortIn w₃) (not-false ok k) refl)) (s .goes (given nodes symbols regions) o₂)) (tells-goes (subst (λ (j : ℕ). Tells w₃ (didWrite j c) r w′) en t))));
       }
 
       pub symbol-unstored : {w′ : List ℕ} (ok : Bool) → Works (storeVal (r₁ .number) c) w₂ (unitIn ok w′) w′ → not ok ≡ true → WritesSymbol nodes symbols n v w o false w′ o₂
       symbol-unstored ok s k = record {
-        goes = λ regions. from-width regions (acts (λ h x _. stores-as) (halts _ _ (told (sym (by-false tt (was-false ok k) refl)) (s .goes (given nodes symbols regions) o₂))));
+        goes = λ regions. from-width regions (acts (λ h x _. stores-as) (halts _ _ (told (sym (by-false tt (not-true ok k) refl)) (s .goes (given nodes symbols regions) o₂))));
       }
 
 -- ---- a variable is written

@@ -1,19 +1,16 @@
 -- A walk on the code's host comes to what the definition's run does: from the tables and the variables at the start to what a pass leaves. Assumes nothing.
 use mathlib.Core.Path.{_≡_, refl, sym, ap, _∙_, subst}
-use mathlib.Core.Bool.{Bool, true, false}
+use mathlib.Core.Bool.{Bool, true, false, true≢false}
 use mathlib.Core.List.{List, map}
-use mathlib.Core.Option.{Option, none, some}
-use Prim.Native.Nat.{ℕ, zero, suc, _^_, _<_, _≤_}
+use mathlib.Core.Option.{none, some}
+use Prim.Native.Nat.{ℕ, _^_, _<_}
 use native.Mathlib.Omega.{arith}
 use lib.ListN.{length}
-use borrow.Author.Tests.{eqb-true, eqb-false}
 use Rattle.value.specs.Value.{type, knownVal}
 use Rattle.memory.specs.Overlay.{Overlay, Cell}
 use Rattle.files.specs.FileTable.{body}
 use Rattle.files.specs.Program.{programOf}
 use Rattle.files.specs.Call.{limitsOf, limitsIn}
-use Rattle.files.specs.Refusal.{callOk}
-use Rattle.files.proofs.Accepted.{call}
 use Rattle.definition.specs.Act.{Why, End, gave, stopped}
 use Rattle.definition.specs.State.{Out}
 use Rattle.definition.specs.Statements as statements
@@ -36,21 +33,19 @@ use Rattle.hosting.specs.declared.Stop.the-variants.{ReturnedNothing, Returned,
 use Rattle.hosting.specs.declared.Walked.{Walked}
 use Rattle.hosting.specs.Scene.{Given, given, Narrow, SymbolsRead, Ready, Meant}
 use Rattle.hosting.specs.Held.{Held, held}
-use Rattle.hosting.specs.Ending.{Ending, ended, short, whyOf}
+use Rattle.hosting.specs.Ending.{Ending, ended, short}
 use Rattle.hosting.specs.Runs.{Came, Kept}
 use Rattle.hosting.specs.Routine.{Rooted}
 use Rattle.hosting.specs.Walking.{stopEnd, unknownEnd, WalksAll}
 use Rattle.hosting.specs.Setting.{howOf, givenOf, sceneOf, Tabled, Started, Finished}
 use Rattle.hosting.proofs.Running.{kept-on}
+use Rattle.hosting.proofs.Reasons.{why-some, why-none}
 use Rattle.setup.specs.Heads.{Typed}
 use Rattle.walk.specs.Units.{Balanced}
 use Rattle.passes.specs.Passing.{startCounts, Passed, PassedIf, Passes, walkedOf, outOf, WalksOf, fullOf}
 use Rattle.passes.proofs.Simulation.{Like, ends-alike}
 
 -- ---- a call's limits
-
-pub limits-room : (c b : List ℕ) → callOk c ≡ true → b ≡ body c 0 → 8 ≤ length b
-limits-room c b h e = rw e (call c h .room)
 
 pub limits-are : (c b : List ℕ) (steps depth : ℕ) → b ≡ body c 0 → (steps ≡ limitsIn b .steps) × (depth ≡ limitsIn b .depth)
     → (steps ≡ limitsOf c .steps) × (depth ≡ limitsOf c .depth)
@@ -92,50 +87,29 @@ walk-told routine world limit p q s t u e h = rw (p, q, s, t, u, e) at h
 
 -- ---- how the walk ends
 
-full-why : (at : Option ℕ) (r n : ℕ) → r ≡ 0 → unknownEnd at (whyOf r n) ≡ short none
-full-why at r n e = rw e
-
 pub full-end : (limit : ℕ) (stop : Stop) → fullOf stop ≡ true → stopEnd limit stop ≡ short none
 unfolding fullOf
-full-end limit ReturnedNothing h = absurd (let z : _≡_ {A = ℕ} 0 1 = cc in omega arith)
-full-end limit (Returned v) h = absurd (let z : _≡_ {A = ℕ} 0 1 = cc in omega arith)
-full-end limit Steps h = absurd (let z : _≡_ {A = ℕ} 0 1 = cc in omega arith)
-full-end limit (Unknown at s) h = full-why (optionOf at) (s .reason) (s .number) (eqb-true (s .reason) 0 h)
-full-end limit (NoBlock b) h = absurd (let z : _≡_ {A = ℕ} 0 1 = cc in omega arith)
-full-end limit NoBlocks h = absurd (let z : _≡_ {A = ℕ} 0 1 = cc in omega arith)
-full-end limit (NoReturn at) h = absurd (let z : _≡_ {A = ℕ} 0 1 = cc in omega arith)
-full-end limit (Halted at target) h = absurd (let z : _≡_ {A = ℕ} 0 1 = cc in omega arith)
+full-end limit ReturnedNothing h = absurd (true≢false (sym h))
+full-end limit (Returned v) h = absurd (true≢false (sym h))
+full-end limit Steps h = absurd (true≢false (sym h))
+full-end limit (Unknown at s) h = ap (unknownEnd (optionOf at)) (why-none (s .reason) (s .number) h)
+full-end limit (NoBlock b) h = absurd (true≢false (sym h))
+full-end limit NoBlocks h = absurd (true≢false (sym h))
+full-end limit (NoReturn at) h = absurd (true≢false (sym h))
+full-end limit (Halted at target) h = absurd (true≢false (sym h))
 
 pub record EndsWith (e : Ending statements.Stop) : Type 0 where
   pub stop : statements.Stop
   pub same : e ≡ ended stop
-
--- a reason that is there
-pub record WhyIs (r n : ℕ) : Type 0 where
-  pub why : Why
-  pub same : whyOf r n ≡ some why
-
-pub some-why : (r n : ℕ) → (r ≡ 0 → ⊥) → WhyIs r n
-some-why zero n h = absurd (h refl)
-some-why (suc zero) n h = record { why = _; same = refl }
-some-why (suc (suc zero)) n h = record { why = _; same = refl }
-some-why (suc (suc (suc zero))) n h = record { why = _; same = refl }
-some-why (suc (suc (suc (suc zero)))) n h = record { why = _; same = refl }
-some-why (suc (suc (suc (suc (suc zero))))) n h = record { why = _; same = refl }
-some-why (suc (suc (suc (suc (suc (suc zero)))))) n h = record { why = _; same = refl }
-some-why (suc (suc (suc (suc (suc (suc (suc zero))))))) n h = record { why = _; same = refl }
-some-why (suc (suc (suc (suc (suc (suc (suc (suc zero)))))))) n h = record { why = _; same = refl }
-some-why (suc (suc (suc (suc (suc (suc (suc (suc (suc k))))))))) n h = record { why = _; same = refl }
-
-unknown-end : (at : Option ℕ) (r n : ℕ) → (r ≡ 0 → ⊥) → EndsWith (unknownEnd at (whyOf r n))
-unknown-end at r n h = let y = some-why r n h in record { stop = statements.Unknown at (y .why); same = ap (unknownEnd at) (y .same) }
 
 pub whole-end : (limit : ℕ) (stop : Stop) → fullOf stop ≡ false → EndsWith (stopEnd limit stop)
 unfolding fullOf
 whole-end limit ReturnedNothing h = record { stop = _; same = refl }
 whole-end limit (Returned v) h = record { stop = _; same = refl }
 whole-end limit Steps h = record { stop = _; same = refl }
-whole-end limit (Unknown at s) h = unknown-end (optionOf at) (s .reason) (s .number) (eqb-false (s .reason) 0 h)
+whole-end limit (Unknown at s) h =
+    let y = why-some (s .reason) (s .number) h in
+    record { stop = statements.Unknown (optionOf at) (y .0); same = ap (unknownEnd (optionOf at)) (y .1) }
 whole-end limit (NoBlock b) h = record { stop = _; same = refl }
 whole-end limit NoBlocks h = record { stop = _; same = refl }
 whole-end limit (NoReturn at) h = record { stop = _; same = refl }

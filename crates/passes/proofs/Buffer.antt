@@ -31,10 +31,13 @@ fixed-stored s x vs a k h l e =
     let m : length (midOf a k s) ≡ k = length-take-le k (drop a s) (rw length-drop (omega arith)) in
     ap (putMid a k s) e ∙ put-sets vs s a k 0 (omega arith) ∙ rw add-zero
 
--- in a part that goes to the end
+-- a part that goes to the end
+pub length-part : (s : List ℕ) (a : ℕ) → a ≤ length s → length (midOf a (length s - a) s) ≡ length s - a
+length-part s a h = length-take-le (length s - a) (drop a s) (rw length-drop (omega arith))
+
 pub rest-stored : (s x b : List ℕ) (v n : ℕ) → n ≡ length b → v + n ≤ length s → x ≡ b ++ drop n (midOf v (length s - v) s) → putMid v (length s - v) s x ≡ sets s v b
 rest-stored s x b v n l h e =
-    let m : length (midOf v (length s - v) s) ≡ length s - v = length-take-le (length s - v) (drop v s) (rw length-drop (omega arith)) in
+    let m = length-part s v (omega arith) in
     let f : sets (midOf v (length s - v) s) 0 b ≡ b ++ drop n (midOf v (length s - v) s) = sets-eq b (midOf v (length s - v) s) 0 (omega arith) ∙ rw (zero-add, l) in
     fixed-stored s x b v (length s - v) (omega arith) (omega arith) (e ∙ sym f)
 
@@ -69,8 +72,7 @@ length-stored w n = length-entries (memoryPart w) n
 
 pub variables-room : (s w : List ℕ) (v stored : ℕ) → v + length (view w stored .variables) * 16 ≤ length s → length (frame.variablesIn (framePart w)) * 16 ≤ length (midOf v (length s - v) s)
 unfolding view
-variables-room s w v stored h =
-    let m : length (midOf v (length s - v) s) ≡ length s - v = length-take-le (length s - v) (drop v s) (rw length-drop (omega arith)) in omega arith
+variables-room s w v stored h = omega (arith, length-part s v (omega arith))
 
 pub variables-put : (s x w : List ℕ) (v stored : ℕ) → v + length (view w stored .variables) * 16 ≤ length s
     → x ≡ variablesBody (frame.variablesIn (framePart w)) ++ drop (length (frame.variablesIn (framePart w)) * 16) (midOf v (length s - v) s)

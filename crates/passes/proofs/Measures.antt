@@ -1,7 +1,7 @@
 -- The bodies' lengths, as the counts tell them, and whether the record has room. Assumes nothing.
 use mathlib.Core.Path.{_≡_, refl, sym, ap, _∙_}
 use mathlib.Core.Logic.{_⊎_, inl, inr}
-use mathlib.Core.Bool.{Bool, true, false, not, _&&_}
+use mathlib.Core.Bool.{Bool, true, false, not, _&&_, true≢false}
 use mathlib.Core.List.{List}
 use mathlib.Core.Option.{Option, none, some}
 use Prim.Native.Nat.{ℕ, zero, suc, _*_, _≤_, _<_}
@@ -70,11 +70,11 @@ fits-is l n = refl
 -- what the test shows
 both-fit : (a b : Bool) → not (a && b) ≡ false → (a ≡ true) × (b ≡ true)
 both-fit true true h = (refl, refl)
-both-fit true false h = absurd (let z : _≡_ {A = ℕ} 0 1 = cc in omega arith)
-both-fit false b h = absurd (let z : _≡_ {A = ℕ} 0 1 = cc in omega arith)
+both-fit true false h = absurd (true≢false h)
+both-fit false b h = absurd (true≢false h)
 
 one-not : (a b : Bool) → not (a && b) ≡ true → (a ≡ false) ⊎ (b ≡ false)
-one-not true true h = absurd (let z : _≡_ {A = ℕ} 0 1 = cc in omega arith)
+one-not true true h = absurd (true≢false (sym h))
 one-not true false h = inr refl
 one-not false b h = inl refl
 

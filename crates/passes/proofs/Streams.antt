@@ -4,8 +4,8 @@ use mathlib.Core.Bool.{true, false}
 use mathlib.Core.List.{List, [], _∷_}
 use Prim.Native.Nat.{ℕ, _+_, _-_, _≤_, min}
 use native.Mathlib.Omega.{arith}
-use lib.ListN.{length, drop, length-drop}
-use lib.Seq.{sets, length-take-le}
+use lib.ListN.{length}
+use lib.Seq.{sets}
 use borrow.Rule.Slice.PartMut.{midOf, putMid}
 use Rattle.files.specs.Refusal.{routineRefusal, worldOk, callOk, refusal}
 use Rattle.files.proofs.Accepted.{run}
@@ -16,7 +16,7 @@ use Rattle.stream.proofs.RecordLaws.{length-record}
 use Rattle.hosting.specs.declared.Counts.{Counts}
 use Rattle.hosting.specs.Ending.{Ending, ended, short}
 use Rattle.passes.specs.Passing.{Holds, PassedIf, Passes, FirstPassedIf, FirstPasses, SecondPassed}
-use Rattle.passes.proofs.Buffer.{rest-stored}
+use Rattle.passes.proofs.Buffer.{length-part, rest-stored}
 use Rattle.passes.proofs.Measures.{few-addresses}
 
 pub files-ok : (r w c : List ℕ) → refusal r w c ≡ 0 → (routineRefusal r ≡ 0) × (worldOk w ≡ true) × (callOk c ≡ true)
@@ -26,9 +26,6 @@ pub call-ok : (r w c : List ℕ) → refusal r w c ≡ 0 → callOk c ≡ true
 call-ok r w c h = run r w c h .call
 
 -- ---- a part that goes to the end
-
-pub length-part : (s : List ℕ) (a : ℕ) → a ≤ length s → length (midOf a (length s - a) s) ≡ length s - a
-length-part s a h = length-take-le (length s - a) (drop a s) (rw length-drop (omega arith))
 
 -- what a stream wrote, if there is room
 stream-stored : (s x bytes : List ℕ) (a at : ℕ) → a + length bytes ≤ length s → Streamed (midOf a (length s - a) s) x at bytes → putMid a (length s - a) s x ≡ sets s a bytes

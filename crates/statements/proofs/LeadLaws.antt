@@ -20,6 +20,7 @@ use Rattle.index.specs.declared.blocks.Place.{Place}
 use Rattle.index.specs.declared.blocks.Statement as index
 use Rattle.index.specs.Answers.{maybeOf, optionOf}
 use Rattle.index.specs.Blocks.{States}
+use Rattle.index.proofs.BlockFields.{option-maybe}
 use Rattle.hosting.specs.declared.Short.{Short}
 use Rattle.hosting.specs.declared.Stop.the-variants.{Unknown}
 use Rattle.hosting.specs.declared.Outcome.{Outcome}
@@ -49,19 +50,15 @@ module _ (root taken next : ℕ) (v : Val) where
 
 -- ---- a Switch's value
 
-known-is : {n : ℕ} (o : Option ℕ) → maybeOf o ≡ Known n → o ≡ some n
-known-is none h = absurd (let z : _≡_ {A = ℕ} 0 1 = cc in omega arith)
-known-is (some m) h = cc
-
-nothing-is : (o : Option ℕ) → maybeOf o ≡ Nothing → o ≡ none
-nothing-is none h = refl
-nothing-is (some m) h = absurd (let z : _≡_ {A = ℕ} 0 1 = cc in omega arith)
-
 module _ (root : ℕ) (cases : List Case) (v : Val) where
   pub switch-unknown : v .known ≡ false → short (some (switchUnknown root)) ≡ endEnd (switches root cases v)
   switch-unknown h = rw h
 
   module _ (h : v .known ≡ true) {n : ℕ} (e : n ≡ walk.extended v) {m : Maybe} (read : m ≡ maybeOf (caseOf cases n)) where
+    -- the case that was read
+    case-is : {a : Maybe} → m ≡ a → caseOf cases n ≡ optionOf a
+    case-is k = sym (option-maybe (caseOf cases n)) ∙ ap optionOf (sym read ∙ k)
+
     by-case : (o : Option ℕ) → caseOf cases n ≡ o → endEnd (switches root cases v) ≡ endEnd (elim o [ none ↦ stopped (noCase (walk.extended v)) | some b ↦ gave b ])
     by-case o q =
         ap (λ (b : Bool). endEnd {A = ℕ} (elim b [
@@ -71,10 +68,10 @@ module _ (root : ℕ) (cases : List Case) (v : Val) where
         ∙ ap (λ (z : Option ℕ). endEnd {A = ℕ} (elim z [ none ↦ stopped (noCase (walk.extended v)) | some b ↦ gave b ])) (ap (caseOf cases) (sym e) ∙ q)
 
     pub switch-case : {b : ℕ} → m ≡ Known b → ended b ≡ endEnd (switches root cases v)
-    switch-case {b} k = sym (by-case (some b) (known-is (caseOf cases n) (sym read ∙ k)))
+    switch-case {b} k = sym (by-case (some b) (case-is k))
 
     pub switch-none : m ≡ Nothing → short (some (noCase n)) ≡ endEnd (switches root cases v)
-    switch-none k = ap (λ (z : ℕ). short (some (noCase z))) e ∙ sym (by-case none (nothing-is (caseOf cases n) (sym read ∙ k)))
+    switch-none k = ap (λ (z : ℕ). short (some (noCase z))) e ∙ sym (by-case none (case-is k))
 
 -- ---- with the evaluation's end
 

@@ -26,8 +26,7 @@ use Rattle.hosting.proofs.Running.{hostIn, kept-on, goes, halts, acts, told, do
 use Rattle.hosting.proofs.Keeping.{kept-ready, kept-meant}
 use Rattle.statements.specs.declared.steps.Site.{Site}
 use Rattle.statements.specs.Endings.{actOf, endEnd, bindEnd, triedEnd}
-use Rattle.statements.specs.Steps.{stepAs}
-use Rattle.statements.specs.Steps.{withRecorded}
+use Rattle.statements.specs.Steps.{stepAs, withRecorded}
 use Rattle.statements.specs.Post.{Sends}
 
 -- ---- what is made of a value

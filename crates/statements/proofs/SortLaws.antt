@@ -1,6 +1,6 @@
 -- What a statement's root is, by its node and the nodes under it. Assumes nothing.
 use mathlib.Core.Path.{_≡_, refl, sym, ap, _∙_, subst}
-use mathlib.Core.Bool.{Bool, true, false, _&&_}
+use mathlib.Core.Bool.{Bool, true, false, _&&_, and-false}
 use mathlib.Core.List.{List}
 use mathlib.Core.Option.{some}
 use Prim.Native.Nat.{ℕ, zero, suc, _+_, _-_, _≤_, _<_}
@@ -29,10 +29,6 @@ unfolding look
 look-node E (stands i h) = refl
 
 -- ---- one Constant under an Intrinsic
-
-and-false : (a : Bool) → (a && false) ≡ false
-and-false true = refl
-and-false false = refl
 
 constant-span : {b : List ℕ} {n : ℕ} {ts : Trees} → Shape b 0 n ts → spanOf b n ≡ 1
 constant-span (a-constant e l) = e

@@ -1,15 +1,12 @@
 -- A statement's step, and the statement as a run on the code's host. Assumes nothing.
 use mathlib.Core.Path.{_≡_, refl, sym, ap₂, _∙_, subst}
-use mathlib.Core.Bool.{Bool, true, false}
+use mathlib.Core.Bool.{Bool, true, false, true≢false}
 use mathlib.Core.List.{List}
 use mathlib.Core.Option.{Option, none, some}
-use Prim.Native.Nat.{ℕ, zero, suc, _+_, _*_, _≤_}
-use native.Mathlib.Omega.{arith}
-use borrow.Author.Tests.{ne-eqb}
-use lib.Dec.{eqb}
+use Prim.Native.Nat.{ℕ, _+_, _*_, _≤_}
 use lib.ListN.{length}
 use Rattle.files.specs.Program.{Program, Tree, treeAt, statementAt}
-use Rattle.definition.specs.Act.{Act, done, leave, emit, pending, End, gave, stopped, try, Why, branchUnknown, switchUnknown, noCase, structTo, unknownAddress, unknownValue, noWidth, storeTo, byZero, _>>=_}
+use Rattle.definition.specs.Act.{Act, done, leave, emit, pending, End, gave, stopped, try, Why, _>>=_}
 use Rattle.definition.specs.Evaluate.{Env, look}
 use Rattle.definition.specs.Evaluate as ev
 use Rattle.definition.specs.Statements as statements
@@ -23,9 +20,10 @@ use Rattle.hosting.specs.declared.Counts.{Counts}
 use Rattle.hosting.specs.declared.Facts.{Facts}
 use Rattle.hosting.specs.Stands.{Stands, Fine}
 use Rattle.hosting.specs.Scene.{Given, Scene, Ready}
-use Rattle.hosting.specs.Ending.{Ending, ended, short, whyOf, shortOf}
+use Rattle.hosting.specs.Ending.{Ending, ended, short, shortOf}
 use Rattle.hosting.specs.Runs.{Kept, Runs}
 use Rattle.hosting.proofs.Running.{goes, halts, acts, told}
+use Rattle.hosting.proofs.Reasons.{why-some, why-none}
 use Rattle.hosting.proofs.Keeping.{kept-ready}
 use Rattle.hosting.proofs.Shapes.{fine}
 use Rattle.statements.specs.declared.steps.Site.{Site}
@@ -38,28 +36,6 @@ use Rattle.statements.specs.Endings.{triedEnd, actsEnd, didIn, fullIn, H
 use Rattle.statements.specs.Sorts.{RootsOf}
 use Rattle.statements.specs.Post.{Acting, Sends, SendsIf, Concludes, RunsStatement}
 use Rattle.statements.proofs.Running.{try-end, leave-runs, concluding, step-runs}
-
--- ---- a reason that is none
-
-never : false ≡ true → ⊥
-never h = let z : _≡_ {A = ℕ} 0 1 = cc in omega arith
-
--- a number other than 0 is a reason
-why-some : (r n : ℕ) → eqb r 0 ≡ false → (y : Why) × (whyOf r n ≡ some y)
-why-some zero n h = absurd (never (sym h))
-why-some (suc zero) n h = (branchUnknown n, refl)
-why-some (suc (suc zero)) n h = (switchUnknown n, refl)
-why-some (suc (suc (suc zero))) n h = (noCase n, refl)
-why-some (suc (suc (suc (suc zero)))) n h = (structTo n, refl)
-why-some (suc (suc (suc (suc (suc zero))))) n h = (unknownAddress n, refl)
-why-some (suc (suc (suc (suc (suc (suc zero)))))) n h = (unknownValue n, refl)
-why-some (suc (suc (suc (suc (suc (suc (suc zero))))))) n h = (noWidth n, refl)
-why-some (suc (suc (suc (suc (suc (suc (suc (suc zero)))))))) n h = (storeTo n, refl)
-why-some (suc (suc (suc (suc (suc (suc (suc (suc (suc k))))))))) n h = (byZero, refl)
-
-why-none : (r n : ℕ) → eqb r 0 ≡ true → whyOf r n ≡ none
-why-none zero n h = refl
-why-none (suc k) n h = absurd (never (sym (ne-eqb (suc k) 0 (λ e. omega arith)) ∙ h))
 
 -- ---- what is kept unless there is no room
 
@@ -87,11 +63,11 @@ kept-acts at at′ {F} {G} (Fails s) h f = go (shortOf s) f
 
 module _ (how : How) (site : Site) (at : Option ℕ) (w o o′ : List ℕ) (a r : Counts) where
   sends-full : (x : Acts) → fullIn x ≡ true → SendsIf how site (actsEnd at x) w o a r o′
-  sends-full (Does d) h = absurd (never h)
-  sends-full Leaves h = absurd (never h)
-  sends-full (Gives v) h = absurd (never h)
-  sends-full Strays h = absurd (never h)
-  sends-full (Halts t) h = absurd (never h)
+  sends-full (Does d) h = absurd (true≢false (sym h))
+  sends-full Leaves h = absurd (true≢false (sym h))
+  sends-full (Gives v) h = absurd (true≢false (sym h))
+  sends-full Strays h = absurd (true≢false (sym h))
+  sends-full (Halts t) h = absurd (true≢false (sym h))
   sends-full (Fails s) h = subst (λ (z : Option Why). SendsIf how site (short z) w o a r o′) (sym (why-none (s .reason) (s .number) h)) tt
 
   sends-some : (x : Acts) → fullIn x ≡ false → Sends how site (didIn x) w o a r o′ → SendsIf how site (actsEnd at x) w o a r o′

@@ -1,6 +1,6 @@
 -- A statement's step as the code sends it is the definition's. Assumes nothing.
 use mathlib.Core.Path.{_≡_, refl, sym, ap, _∙_, subst}
-use mathlib.Core.Bool.{Bool, true, false, cond}
+use mathlib.Core.Bool.{Bool, true, false, cond, true≢false}
 use mathlib.Core.List.{List, [], _++_, append-nil}
 use mathlib.Core.Option.{none, some}
 use Prim.Native.Nat.{ℕ, zero, suc, _+_, _*_, _≤_, _<_}
@@ -54,24 +54,24 @@ module _ {note : Note} {p : NotePiece} where
 
 -- the pending one, where it has none of its own
 left-told : (note : Note) (p : Pending) → takesNote note p ≡ true → statements.noteOf (noteOf note) p ≡ notFollowed (taken p)
-left-told Nothing none h = absurd (let z : _≡_ {A = ℕ} 0 1 = cc in omega arith)
+left-told Nothing none h = absurd (true≢false (sym h))
 left-told Nothing (some xs) h = refl
-left-told (Fields a n) p h = absurd (let z : _≡_ {A = ℕ} 0 1 = cc in omega arith)
-left-told (Written a v) p h = absurd (let z : _≡_ {A = ℕ} 0 1 = cc in omega arith)
-left-told Unknown p h = absurd (let z : _≡_ {A = ℕ} 0 1 = cc in omega arith)
+left-told (Fields a n) p h = absurd (true≢false (sym h))
+left-told (Written a v) p h = absurd (true≢false (sym h))
+left-told Unknown p h = absurd (true≢false (sym h))
 
 own-told : (note : Note) (p : Pending) → takesNote note p ≡ false → statements.noteOf (noteOf note) p ≡ noteOf note
 own-told Nothing none h = refl
-own-told Nothing (some xs) h = absurd (let z : _≡_ {A = ℕ} 0 1 = cc in omega arith)
+own-told Nothing (some xs) h = absurd (true≢false h)
 own-told (Fields a n) p h = refl
 own-told (Written a v) p h = refl
 own-told Unknown p h = refl
 
 pub taken-noted : (note : Note) (p : Pending) → takesNote note p ≡ true → noted p ≡ true
 taken-noted Nothing p h = h
-taken-noted (Fields a n) p h = absurd (let z : _≡_ {A = ℕ} 0 1 = cc in omega arith)
-taken-noted (Written a v) p h = absurd (let z : _≡_ {A = ℕ} 0 1 = cc in omega arith)
-taken-noted Unknown p h = absurd (let z : _≡_ {A = ℕ} 0 1 = cc in omega arith)
+taken-noted (Fields a n) p h = absurd (true≢false (sym h))
+taken-noted (Written a v) p h = absurd (true≢false (sym h))
+taken-noted Unknown p h = absurd (true≢false (sym h))
 
 -- ---- the names in bytes
 

@@ -1,6 +1,6 @@
 -- What a unit buys, as runs on the code's host. Assumes nothing.
 use mathlib.Core.Path.{_≡_, refl, sym, ap, ap₂, _∙_, subst, fun-ext}
-use mathlib.Core.Bool.{Bool, true, false}
+use mathlib.Core.Bool.{Bool, true, false, true≢false}
 use mathlib.Core.List.{List}
 use mathlib.Core.Option.{Option, none, some}
 use Prim.Native.Nat.{ℕ, zero, suc, _+_, _-_, _*_, _≤_, _<_}
@@ -63,7 +63,7 @@ settle-by E nodes ss blocks p b k t e =
 
 outside-stays : (blocks : List ℕ) (p : Place) (b : ℕ) (n : Next) → Outside n → Stays blocks p b n
 outside-stays blocks p b (Stops s) h = tt
-outside-stays blocks p b (Goes s) h = λ e. absurd (let z : _≡_ {A = ℕ} 0 1 = cc in omega arith)
+outside-stays blocks p b (Goes s) h = λ e. absurd (true≢false (sym e ∙ h))
 
 module _ {g : Given} {ss blocks : List ℕ} {p : Place} {b k n : ℕ} (count : (n ≡ numberAt blocks (p .start) 2) × (n < 65536)) where
   pub settles-within : {w o : List ℕ} {a : Counts} → k < n → Ready g w a → Settles g ss blocks p b k w o a (record { next = Goes (record { block = b; statement = k; inside = true }); at = a }) w o

@@ -1,13 +1,15 @@
 use native.Mathlib.Omega.{arith}
-use Rattle.passes.proofs.Streams.{files-ok, length-part, first-passed}
+use Rattle.passes.proofs.Buffer.{length-part}
+use Rattle.passes.proofs.Streams.{files-ok, first-passed}
 use borrow.Author.Needs.{needs}
 use Rattle.passes.proofs.first_pass.Statement.{statement}
 use Rattle.passes.proofs.first_pass.Tie as tie
 
 pass-requires : tie.Need-pass-requires
 pass-requires c κs =
-    let c6 = c .before .before .before .before .before .before in
-    (files-ok _ _ _ (c6 .before .before .pre .0), ((search needs, omega (arith, length-part (c6 .before .before .args .buffer .now) (c .before .before .steps-start .result) (omega arith))), search needs))
+    let at-steps-start = c .before .before in
+    let start = at-steps-start .before .before .before .before .before .before in
+    (files-ok _ _ _ (start .pre .0), ((search needs, omega (arith, length-part (start .args .buffer .now) (at-steps-start .steps-start .result) (omega arith))), search needs))
 
 returns : tie.Need-returns
 returns c = search (needs, first-passed)

@@ -1,5 +1,6 @@
 use borrow.Author.Needs.{needs}
-use Rattle.passes.proofs.Arrival.{limits-room, limits-are}
+use Rattle.setup.proofs.BodyFacts.{call-room}
+use Rattle.passes.proofs.Arrival.{limits-are}
 use Rattle.files.proofs.Accepted.{call-body}
 use Rattle.passes.proofs.limits_of.Statement.{statement}
 use Rattle.passes.proofs.limits_of.Tie as tie
@@ -8,7 +9,7 @@ body-requires : tie.Need-body-requires
 body-requires c κs = search (needs, call-body)
 
 of-requires : tie.Need-of-requires
-of-requires c κs = search (needs, limits-room)
+of-requires c κs = search (needs, call-room)
 
 returns : tie.Need-returns
 returns c = limits-are _ _ _ _ (c .before .body .ensures) (c .of .ensures)

@@ -1,5 +1,6 @@
 use native.Mathlib.Omega.{arith}
-use Rattle.passes.proofs.Streams.{files-ok, length-part, second-none, second-passed}
+use Rattle.passes.proofs.Buffer.{length-part}
+use Rattle.passes.proofs.Streams.{files-ok, second-none, second-passed}
 use borrow.Author.Needs.{needs}
 use Rattle.passes.proofs.second_pass.Statement.{statement}
 use Rattle.passes.proofs.second_pass.Tie as tie
@@ -9,15 +10,16 @@ returns c = search (needs, second-none)
 
 pass-requires : tie.Need-pass-requires
 pass-requires c κs =
-    let c6 = c .before .before .before .before .before .before in
-    let start = c6 .before .before .before .before in
+    let to-start = c .before .before .before .before .before .before in
+    let start = to-start .before .before .before .before in
     (files-ok _ _ _ (start .pre .0), ((search needs, omega (arith, length-part (start .args .buffer .now) (start .args .q) (omega arith))), search needs))
 
 returns-2 : tie.Need-returns-2
 returns-2 c =
-    let c6 = c .before .before .before .before .before .before in
-    let c12 = c6 .before .before .before .before .before .before in
-    let known = c12 .before .before .before .before .pre .1 .1 .1 in second-passed _ _ _ _ _ _ _ _ _ (known .0) (known .1 .1) (c .before .before .before .before .before .pass .ensures)
+    let at-pass = c .before .before .before .before .before in
+    let to-start = at-pass .before .before .before .before .before .before in
+    let start = to-start .before .before .before .before .before in
+    second-passed _ _ _ _ _ _ _ _ _ (start .pre .1 .1 .1 .0) (start .pre .1 .1 .1 .1 .1) (at-pass .pass .ensures)
 
 pub second-pass-spec : {M : Type 1} → statement M
 second-pass-spec =

@@ -1,17 +1,17 @@
-use Rattle.operations.proofs.Answering.{not-known, is-known}
+use borrow.Author.Tests.{not-true, not-false}
 use Rattle.operations.proofs.Working.{store-nowhere, store-short, store-through}
 use borrow.Author.Needs.{needs}
 use Rattle.operations.proofs.places.store.Statement.{statement}
 use Rattle.operations.proofs.places.store.Tie as tie
 
 returns : tie.Need-returns
-returns c = search (needs, not-known, store-nowhere)
+returns c = search (needs, not-true, store-nowhere)
 
 returns-2 : tie.Need-returns-2
-returns-2 c = search (needs, is-known, not-known, store-short)
+returns-2 c = search (needs, not-false, not-true, store-short)
 
 returns-3 : tie.Need-returns-3
-returns-3 c = search (needs, is-known, store-through)
+returns-3 c = search (needs, not-false, store-through)
 
 pub store-spec : {M : Type 1} → statement M
 store-spec =

@@ -1,16 +1,17 @@
-use Rattle.operations.proofs.Answering.{not-known, is-known, chosen-unknown, chosen-zero, chosen-other}
+use borrow.Author.Tests.{not-true, not-false}
+use Rattle.operations.proofs.Answering.{chosen-unknown, chosen-zero, chosen-other}
 use borrow.Author.Needs.{needs}
 use Rattle.operations.proofs.values.choose.Statement.{statement}
 use Rattle.operations.proofs.values.choose.Tie as tie
 
 returns : tie.Need-returns
-returns c = search (needs, not-known, chosen-unknown)
+returns c = search (needs, not-true, chosen-unknown)
 
 returns-2 : tie.Need-returns-2
-returns-2 c = search (needs, is-known, chosen-zero)
+returns-2 c = search (needs, not-false, chosen-zero)
 
 returns-3 : tie.Need-returns-3
-returns-3 c = search (needs, is-known, chosen-other)
+returns-3 c = search (needs, not-false, chosen-other)
 
 pub choose-spec : {M : Type 1} → statement M
 choose-spec =
