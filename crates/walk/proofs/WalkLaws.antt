@@ -1,6 +1,6 @@
 -- A turn of the walk: a unit is spent, and what it buys leads on. Assumes nothing.
 use mathlib.Core.Path.{_≡_, refl, sym, ap, ap₂, _∙_, subst}
-use mathlib.Core.Bool.{Bool, true, false, not}
+use mathlib.Core.Bool.{Bool, true, false, not, true≢false}
 use mathlib.Core.List.{List}
 use mathlib.Core.Option.{Option, none, some}
 use Prim.Native.Nat.{ℕ, zero, suc, _+_, _≤_, _<_, _^_}
@@ -219,17 +219,15 @@ pub record Left (g : Given) (ss blocks : List ℕ) (f : Facts) (w₀ o₀ : List
   pub rest : (P : Program) → Told (g .nodes) ss blocks f P → (limit : ℕ) (e : Ending statements.Stop) (w′ o′ : List ℕ) (a′ : Counts)
       → Runs g (λ x. walkOn P (x .env) limit (a .tally .left) (placeOf s)) w o a e w′ o′ a′ → Runs g (λ x. walkOn P (x .env) limit (a₀ .tally .left) (walk.before 0)) w₀ o₀ a₀ e w′ o′ a′
 
-pub begins : {g : Given} {ss blocks : List ℕ} {f : Facts} {w o : List ℕ} {a : Counts} → Ready g w a → Rooted (g .nodes) ss blocks (blocksPart (tables w)) (f .blocks) → Balanced (a .tally) → Left g ss blocks f w o a (record { block = 0; statement = 0; inside = false }) a w o
-begins r all b = record {
+pub begins : {g : Given} {ss blocks : List ℕ} {f : Facts} {w o : List ℕ} {a : Counts} {s : Spot} → s ≡ record { block = 0; statement = 0; inside = false } → Ready g w a
+    → Rooted (g .nodes) ss blocks (blocksPart (tables w)) (f .blocks) → Balanced (a .tally) → Left g ss blocks f w o a s a w o
+begins {g} {ss} {blocks} {f} {w} {o} {a} is r all b = subst (λ (s : Spot). Left g ss blocks f w o a s a w o) (sym is) (record {
   ready = r;
   rooted = all;
-  placed = record { block = λ e. absurd (never e); here = λ e. absurd (never e) };
+  placed = record { block = λ e. absurd (true≢false (sym e)); here = λ e. absurd (true≢false (sym e)) };
   balanced = b;
   rest = λ P told limit e w′ o′ a′ q. q;
-}
-  where
-    never : false ≡ true → ⊥
-    never h = let z : _≡_ {A = ℕ} 0 1 = cc in omega arith
+})
 
 module _ {g : Given} {ss blocks : List ℕ} {f : Facts} {w₀ o₀ : List ℕ} {a₀ : Counts} {s : Spot} {a : Counts} {w o : List ℕ} (so : Left g ss blocks f w₀ o₀ a₀ s a w o) where
   module _ {r : Moved} {w′ o′ : List ℕ} (turn : Turns g ss blocks f s w o a r w′ o′) where

@@ -1,6 +1,6 @@
 // The walk over a routine's blocks, one unit at a time: a block is entered or a statement run, and the terminator that follows costs nothing.
 ghost use mathlib.Core.Path.{_≡_};
-ghost use mathlib.Core.Bool.{true};
+ghost use mathlib.Core.Bool.{true, false};
 ghost use Prim.Native.Nat.{_+_, _*_, _<_, _≤_};
 ghost use lib.ListN.{length};
 ghost use Rattle.index.specs.Blocks.{BlockTold, Placed};
@@ -277,6 +277,17 @@ fn turn(
     }
 }
 
+// Before block 0, where the walk starts.
+fn entry() -> Spot
+    ensures { λ r. ⌜ r ≡ record { block = 0; statement = 0; inside = false } ⌝ }
+{
+    Spot {
+        block: 0,
+        statement: 0,
+        inside: false,
+    }
+}
+
 // The walk from block 0.
 fn rounds(
     nodes: &[u8],
@@ -296,11 +307,7 @@ fn rounds(
     ensures { λ r. ⌜ WalksFrom (given (now (nodes .entry)) (now (symbols .entry)) (now (regions .entry)) how) (now (statements .entry)) (now (blocks .entry)) facts (now (ws .entry)) (now (out .entry)) start r (now (ws .exit)) (now (out .exit)) ⌝ }
 {
     let mut at = start;
-    let mut spot = Spot {
-        block: 0,
-        statement: 0,
-        inside: false,
-    };
+    let mut spot = entry();
     while spot.block < facts.blocks {
         let t = at.tally;
         if t.left == 0 {

@@ -14,6 +14,9 @@ Inv-loop nodes statements blocks symbols regions ws₀ out₀ how facts at₀ sp
 abbrev μ-loop : tie.MeasureT-loop
 μ-loop nodes statements blocks symbols regions ws₀ out₀ how facts at₀ spot₀ ws out at spot = at .tally .left
 
+entry-requires : tie.Need-entry-requires Inv-loop μ-loop
+entry-requires c κs = search needs
+
 loop-holds : tie.Need-loop-holds Inv-loop μ-loop
 loop-holds c = search (needs, begins)
 
@@ -28,8 +31,11 @@ returns c = search (needs, stops-spent)
 
 turn-requires : tie.Need-turn-requires Inv-loop μ-loop
 turn-requires c κs =
-    let c₁ = c .before .before .before .before .before .before in
-    (c₁ .before .before .loop .inv .1 .1 .ready, (c₁ .before .before .loop .inv .1 .1 .rooted, ((c₁ .before .before .loop .inv .1 .1 .placed, c .before .before .before .before .before .if1 .taken), (c₁ .before .before .loop .inv .1 .1 .balanced, omega (arith, c .before .before .if2 .left)))))
+    let at-if2 = c .before .before in
+    let at-if1 = at-if2 .before .before .before in
+    let at-loop = at-if1 .before .before .before in
+    let left = at-loop .loop .inv .1 .1 in
+    (left .ready, (left .rooted, ((left .placed, at-if1 .if1 .taken), (left .balanced, omega (arith, at-if2 .if2 .left)))))
 
 enum-known-next : tie.Need-enum-known-next Inv-loop μ-loop
 enum-known-next c = search needs
@@ -51,9 +57,12 @@ loop-less c = search (needs, goes-less)
 
 loop-again : tie.Need-loop-again Inv-loop μ-loop
 loop-again c =
-    let c₁ = c .before .before .before .before .before .before in
-    let c₂ = c₁ .before .before .before .before .before .before in
-    (search needs, (search needs, goes-on (c₂ .before .before .before .before .before .loop .inv .1 .1) (c₁ .before .before .turn .ensures) (c .before .next2 .given .1)))
+    let at-out = c .before .before .before .before .before in
+    let at-turn = at-out .before .before .before in
+    let to-loop = at-turn .before .before .before .before .before .before in
+    let at-loop = to-loop .before .before .before in
+    let inv = at-loop .loop .inv in
+    (search needs, (omega (arith, at-out, at-turn .before, inv .1 .0), goes-on (inv .1 .1) (at-turn .turn .ensures) (c .before .next2 .given .1)))
 
 same-length-5 : tie.Need-same-length-5 Inv-loop μ-loop
 same-length-5 c = c .before .before .before .loop .inv .0
@@ -70,6 +79,7 @@ rounds-spec =
     (tie.spec
     Inv-loop
     μ-loop
+    entry-requires
     loop-holds
     same-length
     same-length-2
