@@ -11,8 +11,9 @@ returns-2 c = search (needs, constant-20)
 
 returns-3 : tie.Need-returns-3
 returns-3 c =
-    let c6 = c .before .before .before .before .before .before in
-    constant-answers _ _ _ (search needs) (search needs) _ _ _ _ _ _ (c6 .before .evaluate .last .1 .1 .0) _ (c6 .before .evaluate .ensures) (c .constant-of .ensures) (search needs) (c .before .before .before .clear .ensures)
+    let at-clear = c .before .before .before in
+    let at-evaluate = at-clear .before .before .before .before in
+    constant-answers _ _ _ (search needs) (search needs) _ _ _ _ _ _ (at-evaluate .evaluate .last .1 .1 .0) _ (at-evaluate .evaluate .ensures) (c .constant-of .ensures) (search needs) (at-clear .clear .ensures)
 
 pub constant-value-spec : {M : Type 1} → statement M
 constant-value-spec =

@@ -14,33 +14,36 @@ first-pass-requires c κs = (search needs, (omega arith, search needs))
 
 returns : tie.Need-returns
 returns c =
-    let c6 = c .before .before .before .before .before .before in
-    let c12 = c6 .before .before .before .before .before .before in
-    let c18 = c12 .before .before .before .before .before .before in
-    let c24 = c18 .before .before .before .before .before .before in
-    let known = c24 .before .pre in
-    answers-21 _ _ _ _ _ (known .0) (known .1) _ _ _ _ _ _ _ (c6 .before .before .is-full .ensures) (c12 .before .first-pass .ensures) (c6 .before .if1 .taken) _ _ _ _ (omega arith) (omega arith)
-    (c .before .before .before .before .clear-both .ensures)
+    let at-clear-both = c .before .before .before .before in
+    let at-if1 = at-clear-both .before .before .before in
+    let at-first-pass = at-if1 .before .before .before .before .before .before in
+    let to-start = at-first-pass .before .before .before .before .before .before in
+    let start = to-start .before .before .before .before .before .before in
+    answers-21 _ _ _ _ _ (start .pre .0) (start .pre .1) _ _ _ _ _ _ _ (at-if1 .before .is-full .ensures) (at-first-pass .first-pass .ensures) (at-if1 .if1 .taken) _ _ _ _ (omega arith) (omega arith)
+    (at-clear-both .clear-both .ensures)
 
 run-on-requires : tie.Need-run-on-requires
 run-on-requires c κs =
-    let c6 = c .before .before .before .before .before .before in
-    let c12 = c6 .before .before .before .before .before .before in
-    let c18 = c12 .before .before .before .before .before .before in
-    let full = c .before .before .before .is-full .ensures in
-    let first = c6 .before .before .first-pass .ensures in
-    let left = c .before .before .if1 .left in
-    (c18 .before .before .pre .0, (omega arith, (first-tabled _ _ _ _ _ _ _ _ _ full first left (c12 .before .set-tables .ensures .0), first-ended _ _ _ _ _ _ _ _ _ full first left)))
+    let at-if1 = c .before .before in
+    let at-is-full = at-if1 .before in
+    let at-first-pass = at-is-full .before .before .before .before .before in
+    let at-set-tables = at-first-pass .before .before .before .before .before in
+    let to-start = at-set-tables .before .before .before .before .before .before in
+    let start = to-start .before in
+    let full = at-is-full .is-full .ensures in
+    let first = at-first-pass .first-pass .ensures in
+    let left = at-if1 .if1 .left in
+    (start .pre .0, (omega arith, (first-tabled _ _ _ _ _ _ _ _ _ full first left (at-set-tables .set-tables .ensures .0), first-ended _ _ _ _ _ _ _ _ _ full first left)))
 
 returns-2 : tie.Need-returns-2
 returns-2 c =
-    let c6 = c .before .before .before .before .before .before in
-    let c12 = c6 .before .before .before .before .before .before in
-    let c18 = c12 .before .before .before .before .before .before in
-    let c24 = c18 .before .before .before .before .before .before in
-    let known = c24 .before .pre in
-    answers-on _ _ _ _ _ (known .0) (known .1) _ _ _ _ _ _ _ (c6 .before .before .is-full .ensures) (c12 .before .first-pass .ensures) (c6 .before .if1 .left) _ _ _ _ (omega arith) (omega arith)
-    (c .before .before .before .before .run-on .ensures)
+    let at-run-on = c .before .before .before .before in
+    let at-if1 = at-run-on .before .before .before in
+    let at-first-pass = at-if1 .before .before .before .before .before .before in
+    let to-start = at-first-pass .before .before .before .before .before .before in
+    let start = to-start .before .before .before .before .before .before in
+    answers-on _ _ _ _ _ (start .pre .0) (start .pre .1) _ _ _ _ _ _ _ (at-if1 .before .is-full .ensures) (at-first-pass .first-pass .ensures) (at-if1 .if1 .left) _ _ _ _ (omega arith) (omega arith)
+    (at-run-on .run-on .ensures)
 
 pub run-accepted-spec : {M : Type 1} → statement M
 run-accepted-spec =

@@ -11,8 +11,11 @@ set-end-requires c κs = (search needs, (search needs, search (needs, end-typed)
 
 returns-2 : tie.Need-returns-2
 returns-2 c =
-    let c6 = c .before .before .before .before .before .before in
-    pass-whole _ _ _ _ _ _ _ _ _ _ _ _ _ (c .before .before .before .before .before .is-full .ensures) (c .before .before .before .before .if1 .left) (c6 .before .before .before .before .walk-all .ensures) (c .before .before .set-end .ensures)
+    let at-set-end = c .before .before in
+    let at-if1 = at-set-end .before .before in
+    let at-is-full = at-if1 .before in
+    let at-walk-all = at-is-full .before .before .before .before .before in
+    pass-whole _ _ _ _ _ _ _ _ _ _ _ _ _ (at-is-full .is-full .ensures) (at-if1 .if1 .left) (at-walk-all .walk-all .ensures) (at-set-end .set-end .ensures)
 
 pub pass-spec : {M : Type 1} → statement M
 pass-spec =

@@ -12,16 +12,20 @@ second-pass-requires c κs = (search needs, (search needs, (search needs, (searc
 
 put-bodies-requires : tie.Need-put-bodies-requires
 put-bodies-requires c κs =
-    let c6 = c .before .before .before .before .before .before in
-    let c12 = c6 .before .before .before .before .before .before in
-    laid _ _ _ _ _ _ _ _ _ (c12 .before .before .before .before .before .pre .0) (c6 .before .second-pass .ensures) (c12 .before .before .before .before .before .pre .1 .1 .1 .1)
+    let to-second-pass = c .before .before .before .before .before .before in
+    let at-second-pass = to-second-pass .before in
+    let at-limits-of = at-second-pass .before .before .before .before in
+    let start = at-limits-of .before .before .before .before .before .before in
+    laid _ _ _ _ _ _ _ _ _ (start .pre .0) (at-second-pass .second-pass .ensures) (start .pre .1 .1 .1 .1)
 
 returns : tie.Need-returns
 returns c =
-    let c6 = c .before .before .before .before .before .before in
-    let c12 = c6 .before .before .before .before .before .before in
-    let c18 = c12 .before .before .before .before .before .before in
-    completes _ _ _ _ _ (c18 .before .before .pre .1 .1 .1 .0) _ _ _ _ _ _ (c18 .before .before .pre .1 .1 .1 .1) _ (c12 .before .before .limits-of .ensures .0) (c6 .before .before .before .before .second-pass .ensures) (c .before .before .put-bodies .ensures)
+    let at-put-bodies = c .before .before in
+    let to-second-pass = at-put-bodies .before .before .before .before .before .before in
+    let at-second-pass = to-second-pass .before .before in
+    let at-limits-of = at-second-pass .before .before .before .before in
+    let start = at-limits-of .before .before .before .before .before .before in
+    completes _ _ _ _ _ (start .pre .1 .1 .1 .0) _ _ _ _ _ _ (start .pre .1 .1 .1 .1) _ (at-limits-of .limits-of .ensures .0) (at-second-pass .second-pass .ensures) (at-put-bodies .put-bodies .ensures)
 
 pub put-rest-spec : {M : Type 1} → statement M
 put-rest-spec =

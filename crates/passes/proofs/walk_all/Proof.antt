@@ -11,10 +11,11 @@ walk-from-requires c κs = search (needs, tabled-kept)
 
 returns : tie.Need-returns
 returns c =
-    let c6 = c .before .before .before .before .before .before in
-    let c12 = c6 .before .before .before .before .before .before in
-    let known = c12 .before .before .before .before .before .pre .1 in
-    walk-arrives _ _ _ _ _ _ _ _ _ _ _ _ _ (known .0 .1) (c6 .before .before .before .before .before .limits-of .ensures) (known .1) (c6 .before .before .before .set-start .ensures) (c .before .before .before .before .walk-from .ensures)
+    let at-walk-from = c .before .before .before .before in
+    let at-set-start = at-walk-from .before .before .before .before .before in
+    let at-limits-of = at-set-start .before .before in
+    let start = at-limits-of .before .before .before .before .before .before in
+    walk-arrives _ _ _ _ _ _ _ _ _ _ _ _ _ (start .pre .1 .0 .1) (at-limits-of .limits-of .ensures) (start .pre .1 .1) (at-set-start .set-start .ensures) (at-walk-from .walk-from .ensures)
 
 pub walk-all-spec : {M : Type 1} → statement M
 walk-all-spec =

@@ -22,9 +22,17 @@ body-requires-5 c κs = search (needs, world-body)
 
 walk-requires : tie.Need-walk-requires
 walk-requires c κs =
-    let c6 = c .before .before .before .before .before .before in
-    let c12 = c6 .before .before .before .before .before .before in
-    let t = c12 .before .before .before .pre .1 in (walk-ready _ _ (c6 .before .before .before .before .body .ensures) (c6 .before .body4 .ensures) (c .before .before .before .before .before .before .body5 .ensures) (c .before .before .no-counts .ensures) (t .0) (t .1), (walk-rooted (c6 .before .before .before .before .body .ensures) (c6 .before .before .before .body2 .ensures) (c6 .before .before .body3 .ensures) (t .0), walk-balanced (c .before .before .no-counts .ensures) (omega arith)))
+    let at-no-counts = c .before .before in
+    let at-body5 = at-no-counts .before .before .before .before in
+    let at-body4 = at-body5 .before in
+    let at-body3 = at-body4 .before in
+    let at-body2 = at-body3 .before in
+    let at-body = at-body2 .before in
+    let start = at-body .before .before .before .before .before in
+    let t = start .pre .1 in (
+      walk-ready _ _ (at-body .body .ensures) (at-body4 .body4 .ensures) (at-body5 .body5 .ensures) (at-no-counts .no-counts .ensures) (t .0) (t .1),
+      (walk-rooted (at-body .body .ensures) (at-body2 .body2 .ensures) (at-body3 .body3 .ensures) (t .0), walk-balanced (at-no-counts .no-counts .ensures) (omega (arith, start))),
+    )
 
 returns : tie.Need-returns
 returns c = search (needs, walk-told)

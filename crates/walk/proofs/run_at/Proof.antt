@@ -6,16 +6,17 @@ use Rattle.walk.proofs.run_at.Tie as tie
 
 add-statement : tie.Need-add-statement
 add-statement c =
-    let c₁ = c .before .before .before .before in
-    let c₂ = c₁ .before .before .before .before .before .before in
-    omega (arith, c₂ .before .pre .1 .1 (c₁ .if1 .taken))
+    let at-if1 = c .before .before .before .before in
+    let to-start = at-if1 .before .before .before .before .before .before in
+    let start = to-start .before in
+    omega (arith, start .pre .1 .1 (at-if1 .if1 .taken))
 
 statement-requires : tie.Need-statement-requires
 statement-requires c κs =
-    let c₁ = c .before .before .before .before in
-    let c₂ = c₁ .before .before .before .before .before .before in
-    let start = c₂ .before in
-    (start .pre .0, (start .pre .1 .1 (c₁ .if1 .taken), start .pre .1 .0))
+    let at-if1 = c .before .before .before .before in
+    let to-start = at-if1 .before .before .before .before .before .before in
+    let start = to-start .before in
+    (start .pre .0, (start .pre .1 .1 (at-if1 .if1 .taken), start .pre .1 .0))
 
 same-length : tie.Need-same-length
 same-length c = search needs

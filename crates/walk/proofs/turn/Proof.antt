@@ -14,10 +14,12 @@ pay-requires c κs = search needs
 
 unit-requires : tie.Need-unit-requires
 unit-requires c κs =
-    let c₁ = c .before .before .before .before .before .before in
-    let c₂ = c₁ .before .before .before .before .before .before in
-    let start = c₂ .before in
-    (paid-ready (start .args .at) (not (start .args .spot .inside)) (c .before .before .pay .ensures) (start .pre .0), (placing (start .pre .1 .0) (c .before .before .before .before .place-of .ensures) (start .pre .1 .1 .0 .1), here-at (start .pre .1 .0) (c .before .before .before .before .place-of .ensures) (start .pre .1 .1 .0 .1) (start .pre .1 .1 .0 .0)))
+    let at-pay = c .before .before in
+    let at-place-of = at-pay .before .before in
+    let to-start = at-place-of .before .before .before .before .before .before in
+    let start = to-start .before .before .before in
+    let place = at-place-of .place-of .ensures in
+    (paid-ready (start .args .at) (not (start .args .spot .inside)) (at-pay .pay .ensures) (start .pre .0), (placing (start .pre .1 .0) place (start .pre .1 .1 .0 .1), here-at (start .pre .1 .0) place (start .pre .1 .1 .0 .1) (start .pre .1 .1 .0 .0)))
 
 resumed-requires : tie.Need-resumed-requires
 resumed-requires c κs = search needs
@@ -30,11 +32,13 @@ same-length-2 c = search needs
 
 returns : tie.Need-returns
 returns c =
-    let c₁ = c .before .before .before .before .before .before in
-    let c₂ = c₁ .before .before .before .before .before .before in
-    let c₃ = c₂ .before .before .before .before .before .before in
-    let start = c₃ .before .before .before in
-    turned _ (start .pre .1 .0) (c₂ .place-of .ensures) (start .pre .1 .1 .0 .1) (start .pre .1 .1 .0 .0) (start .pre .1 .1 .1 .0) (start .pre .1 .1 .1 .1) (c₁ .before .before .before .before .pay .ensures) (c₁ .before .unit .ensures) (c .resumed .ensures)
+    let to-unit = c .before .before .before .before .before .before in
+    let at-unit = to-unit .before in
+    let at-pay = at-unit .before .before .before in
+    let at-place-of = at-pay .before .before in
+    let to-start = at-place-of .before .before .before .before .before .before in
+    let start = to-start .before .before .before in
+    turned _ (start .pre .1 .0) (at-place-of .place-of .ensures) (start .pre .1 .1 .0 .1) (start .pre .1 .1 .0 .0) (start .pre .1 .1 .1 .0) (start .pre .1 .1 .1 .1) (at-pay .pay .ensures) (at-unit .unit .ensures) (c .resumed .ensures)
 
 pub turn-spec : {M : Type 1} → statement M
 turn-spec =

@@ -5,8 +5,8 @@ use Rattle.walk.proofs.unit.Tie as tie
 
 run-at-requires : tie.Need-run-at-requires
 run-at-requires c κs =
-    let c₁ = c .before .before .before .before .before .before in
-    let start = c₁ .before .before .before in
+    let to-start = c .before .before .before .before .before .before in
+    let start = to-start .before .before .before in
     (start .pre .0, (start .pre .1 .0 .roots, λ e. statement-inside (start .pre .1 .0) (start .pre .1 .1 e)))
 
 enum-known-halt : tie.Need-enum-known-halt
@@ -17,19 +17,20 @@ enum-told c = search needs
 
 ahead-requires : tie.Need-ahead-requires
 ahead-requires c κs =
-    let c₁ = c .before .before .before .before .before .before in
-    let c₂ = c₁ .before .before .before .before .before .before in
-    let c₃ = c₂ .before .before .before .before .before .before in
-    let start = c₃ .before in
+    let to-run-at = c .before .before .before .before .before .before in
+    let at-run-at = to-run-at .before .before .before in
+    let to-start = at-run-at .before .before .before .before .before .before in
+    let start = to-start .before .before .before .before in
     λ e. statement-small (start .pre .1 .1 e)
 
 settle-requires : tie.Need-settle-requires
 settle-requires c κs =
-    let c₁ = c .before .before .before .before .before .before in
-    let c₂ = c₁ .before .before .before .before .before .before in
-    let c₃ = c₂ .before .before .before .before .before .before in
-    let start = c₃ .before .before in
-    (on-ready (c₁ .before .before .before .before .run-at .ensures) (c .before .before .before .enum-told .given .1), start .pre .1 .0)
+    let at-enum-told = c .before .before .before in
+    let to-run-at = at-enum-told .before .before .before .before .before .before in
+    let at-run-at = to-run-at .before in
+    let to-start = at-run-at .before .before .before .before .before .before in
+    let start = to-start .before .before .before .before in
+    (on-ready (at-run-at .run-at .ensures) (at-enum-told .enum-told .given .1), start .pre .1 .0)
 
 same-length : tie.Need-same-length
 same-length c = search needs

@@ -10,13 +10,18 @@ body-requires c κs = search (needs, nodes-there)
 
 eval-requires : tie.Need-eval-requires
 eval-requires c κs =
-    let c6 = c .before .before .before .before .before .before in
-    (eval-ready (c .before .before .before .before .body .ensures) (c .before .before .no-counts .ensures) (c6 .before .pre .1), eval-fine _ (c .before .before .before .before .body .ensures) (constant-stands _ _ (c6 .before .pre .0)))
+    let at-no-counts = c .before .before in
+    let at-body = at-no-counts .before .before in
+    let start = at-body .before .before .before in
+    (eval-ready (at-body .body .ensures) (at-no-counts .no-counts .ensures) (start .pre .1), eval-fine _ (at-body .body .ensures) (constant-stands _ _ (start .pre .0)))
 
 returns : tie.Need-returns
 returns c =
-    let c6 = c .before .before .before .before .before .before in
-    evaluates _ _ _ _ _ _ _ _ _ _ (omega arith) (c6 .before .before .body .ensures) (c .before .before .before .before .before .before .no-counts .ensures) (constant-stands _ _ (c6 .before .before .before .before .before .pre .0)) (c6 .before .before .before .before .before .pre .1) (c .before .before .before .eval .ensures)
+    let at-eval = c .before .before .before in
+    let at-no-counts = at-eval .before .before .before in
+    let at-body = at-no-counts .before .before in
+    let start = at-body .before .before .before in
+    evaluates _ _ _ _ _ _ _ _ _ _ (omega arith) (at-body .body .ensures) (at-no-counts .no-counts .ensures) (constant-stands _ _ (start .pre .0)) (start .pre .1) (at-eval .eval .ensures)
 
 pub evaluate-in-spec : {M : Type 1} → statement M
 evaluate-in-spec =

@@ -29,8 +29,8 @@ enum-told-4 c = search needs
 
 execute-requires : tie.Need-execute-requires
 execute-requires c κs =
-    let c₁ = c .before .before .before .before .before .before in
-    let start = c₁ .before .before .before .before in
+    let at-sort-of = c .before .before .before .before in
+    let start = at-sort-of .before .before .before .before .before .before in
     (start .pre .0, start .pre .1)
 
 done-requires : tie.Need-done-requires
@@ -59,9 +59,11 @@ same-length-4 c = search needs
 
 returns-4 : tie.Need-returns-4
 returns-4 c =
-    let c₁ = c .before .before .before .before .before .before in
-    let c₂ = c₁ .before .before .before .before .before .before in
-    acting-plain (c₂ .before .before .before .before .pre .1) (c₁ .before .before .before .before .sort-of .ensures) (c₁ .before .before .enum-told4 .given .1) (c .before .before .before .before .before .execute .ensures) (c .done .ensures)
+    let at-execute = c .before .before .before .before .before in
+    let at-enum-told4 = at-execute .before .before .before in
+    let at-sort-of = at-enum-told4 .before .before in
+    let start = at-sort-of .before .before .before .before .before .before in
+    acting-plain (start .pre .1) (at-sort-of .sort-of .ensures) (at-enum-told4 .enum-told4 .given .1) (at-execute .execute .ensures) (c .done .ensures)
 
 pub act-spec : {M : Type 1} → statement M
 act-spec =

@@ -18,9 +18,10 @@ did-of-requires c κs = search needs
 
 recorded-requires : tie.Need-recorded-requires
 recorded-requires c κs =
-    let c₁ = c .before .before .before .before .before .before in
-    let start = c₁ .before .before in
-    kept-fit _ _ (start .args .a .outcome) (sym (c .before .before .before .is-full .ensures) ∙ c .before .before .if1 .left) (start .pre)
+    let at-if1 = c .before .before in
+    let at-is-full = at-if1 .before in
+    let start = at-is-full .before .before .before .before .before in
+    kept-fit _ _ (start .args .a .outcome) (sym (at-is-full .is-full .ensures) ∙ at-if1 .if1 .left) (start .pre)
 
 same-length : tie.Need-same-length
 same-length c = search needs

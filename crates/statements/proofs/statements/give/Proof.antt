@@ -14,9 +14,10 @@ add-eval c = search needs
 
 eval-requires : tie.Need-eval-requires
 eval-requires c κs =
-    let c₁ = c .before .before .before .before .before .before in
-    let start = c₁ .before .before .before in
-    (start .pre .0, give-kid (start .pre .1 .1) (start .pre .1 .0) (c .before .before .before .span .ensures) (c .before .before .if1 .left))
+    let at-if1 = c .before .before in
+    let at-span = at-if1 .before in
+    let start = at-span .before .before .before .before .before .before in
+    (start .pre .0, give-kid (start .pre .1 .1) (start .pre .1 .0) (at-span .span .ensures) (at-if1 .if1 .left))
 
 gave-requires : tie.Need-gave-requires
 gave-requires c κs = search needs
@@ -29,10 +30,11 @@ same-length-2 c = search needs
 
 returns-2 : tie.Need-returns-2
 returns-2 c =
-    let c₁ = c .before .before .before .before .before .before in
-    let c₂ = c₁ .before .before .before .before .before .before in
-    let start = c₂ .before .before .before in
-    acting-gives (start .pre .1 .1) (start .pre .1 .0) (c₁ .before .before .before .span .ensures) (c₁ .before .before .if1 .left) (c .before .before .before .before .before .eval .ensures) (c .gave .ensures)
+    let at-eval = c .before .before .before .before .before in
+    let at-if1 = at-eval .before .before .before in
+    let at-span = at-if1 .before in
+    let start = at-span .before .before .before .before .before .before in
+    acting-gives (start .pre .1 .1) (start .pre .1 .0) (at-span .span .ensures) (at-if1 .if1 .left) (at-eval .eval .ensures) (c .gave .ensures)
 
 pub give-spec : {M : Type 1} → statement M
 give-spec =

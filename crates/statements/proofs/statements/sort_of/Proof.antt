@@ -20,16 +20,23 @@ returns-3 c = search (needs, sort-unreachable)
 
 returns-4 : tie.Need-returns-4
 returns-4 c =
-    let c₁ = c .before .before .before .before .before .before in
-    sort-other _ _ _ (c₁ .before .kind .ensures) (c .before .before .before .before .before .if2 .left) (c .before .before .before .before .reference .ensures) (c .before .before .if3 .left) (c .if4 .taken)
+    let at-if3 = c .before .before in
+    let at-reference = at-if3 .before .before in
+    let at-if2 = at-reference .before in
+    let at-kind = at-if2 .before .before in
+    sort-other _ _ _ (at-kind .kind .ensures) (at-if2 .if2 .left) (at-reference .reference .ensures) (at-if3 .if3 .left) (c .if4 .taken)
 
 span-requires : tie.Need-span-requires
 span-requires c κs = search needs
 
 returns-5 : tie.Need-returns-5
 returns-5 c =
-    let c₁ = c .before .before .before .before .before .before in
-    sort-many _ _ _ (c₁ .before .before .before .kind .ensures) (c₁ .before .if2 .left) (c₁ .reference .ensures) (c .before .before .before .before .if3 .left) (c .before .before .if4 .left) (c .before .span .ensures) (c .if5 .taken)
+    let at-if4 = c .before .before in
+    let at-if3 = at-if4 .before .before in
+    let at-reference = at-if3 .before .before in
+    let at-if2 = at-reference .before in
+    let at-kind = at-if2 .before .before in
+    sort-many _ _ _ (at-kind .kind .ensures) (at-if2 .if2 .left) (at-reference .reference .ensures) (at-if3 .if3 .left) (at-if4 .if4 .left) (c .before .span .ensures) (c .if5 .taken)
 
 add-kind : tie.Need-add-kind
 add-kind c = search needs

@@ -16,8 +16,9 @@ act-requires c κs = search (needs, cleared-ready, root-fine)
 
 conclude-requires : tie.Need-conclude-requires
 conclude-requires c κs =
-    let c₁ = c .before .before .before .before .before .before in
-    kept-acts none (optionOf (c₁ .before .before .before .statement-at .result .address)) (c₁ .act .result .outcome) (λ r. r .fit) (c₁ .act .ensures .ready)
+    let at-act = c .before .before .before .before .before .before in
+    let at-statement-at = at-act .before .before .before in
+    kept-acts none (optionOf (at-statement-at .statement-at .result .address)) (at-act .act .result .outcome) (λ r. r .fit) (at-act .act .ensures .ready)
 
 same-length : tie.Need-same-length
 same-length c = search needs
@@ -27,11 +28,14 @@ same-length-2 c = search needs
 
 returns : tie.Need-returns
 returns c =
-    let c₁ = c .before .before .before .before .before .before in
-    let c₂ = c₁ .before .before .before .before .before .before in
-    let c₃ = c₂ .before .before .before .before .before .before in
-    let start = c₃ .before .before .before .before .before in
-    statement-runs (start .pre .1 .1) (start .pre .1 .0) (c₂ .before .before .before .clear-note .ensures) (c₂ .statement-at .ensures) (c₁ .before .before .before .act .ensures) (c .before .before .conclude .ensures)
+    let at-conclude = c .before .before in
+    let to-act = at-conclude .before .before .before .before .before .before in
+    let at-act = to-act .before in
+    let at-statement-at = at-act .before .before .before in
+    let at-clear-note = at-statement-at .before .before .before in
+    let to-start = at-clear-note .before .before .before .before .before .before in
+    let start = to-start .before .before in
+    statement-runs (start .pre .1 .1) (start .pre .1 .0) (at-clear-note .clear-note .ensures) (at-statement-at .statement-at .ensures) (at-act .act .ensures) (at-conclude .conclude .ensures)
 
 pub statement-spec : {M : Type 1} → statement M
 statement-spec =

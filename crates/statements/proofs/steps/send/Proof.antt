@@ -21,9 +21,10 @@ piece-requires c κs = search needs
 
 names-requires : tie.Need-names-requires
 names-requires c κs =
-    let c₁ = c .before .before .before .before .before .before in
-    let start = c₁ .before .before .before in
-    (start .pre .0, taken-noted (start .args .did .note) (pendingIn (notePart (now (start .args .ws)))) (sym (c .before .before .before .before .before .takes .ensures) ∙ c .before .before .before .before .if1 .taken), start .pre .1)
+    let at-if1 = c .before .before .before .before in
+    let at-takes = at-if1 .before in
+    let start = at-takes .before .before .before .before in
+    (start .pre .0, taken-noted (start .args .did .note) (pendingIn (notePart (now (start .args .ws)))) (sym (at-takes .takes .ensures) ∙ at-if1 .if1 .taken), start .pre .1)
 
 step-requires : tie.Need-step-requires
 step-requires c κs = search (needs, names-fit)

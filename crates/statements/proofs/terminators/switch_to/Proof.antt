@@ -26,15 +26,19 @@ enum-told c = search needs
 
 returns-2 : tie.Need-returns-2
 returns-2 c =
-    let c₁ = c .before .before .before .before .before .before in
-    let start = c₁ .before .before in
-    switch-case (start .args .root) (listed (caseAt (now (start .args .blocks)) (start .args .start + 24)) 0 (start .args .count)) (start .args .v) (not-false _ (c .before .before .before .before .before .if1 .left)) (c .before .before .before .before .sign-extend .ensures) (c .before .before .before .case-of .ensures) (c .before .c .given .1)
+    let at-case-of = c .before .before .before in
+    let at-sign-extend = at-case-of .before in
+    let at-if1 = at-sign-extend .before in
+    let start = at-if1 .before .before .before in
+    switch-case (start .args .root) (listed (caseAt (now (start .args .blocks)) (start .args .start + 24)) 0 (start .args .count)) (start .args .v) (not-false _ (at-if1 .if1 .left)) (at-sign-extend .sign-extend .ensures) (at-case-of .case-of .ensures) (c .before .c .given .1)
 
 returns-3 : tie.Need-returns-3
 returns-3 c =
-    let c₁ = c .before .before .before .before .before .before in
-    let start = c₁ .before in
-    switch-none (start .args .root) (listed (caseAt (now (start .args .blocks)) (start .args .start + 24)) 0 (start .args .count)) (start .args .v) (not-false _ (c .before .before .before .before .if1 .left)) (c .before .before .before .sign-extend .ensures) (c .before .before .case-of .ensures) (c .enum-told .given .1)
+    let at-case-of = c .before .before in
+    let at-sign-extend = at-case-of .before in
+    let at-if1 = at-sign-extend .before in
+    let start = at-if1 .before .before .before in
+    switch-none (start .args .root) (listed (caseAt (now (start .args .blocks)) (start .args .start + 24)) 0 (start .args .count)) (start .args .v) (not-false _ (at-if1 .if1 .left)) (at-sign-extend .sign-extend .ensures) (at-case-of .case-of .ensures) (c .enum-told .given .1)
 
 pub switch-to-spec : {M : Type 1} → statement M
 switch-to-spec =

@@ -18,40 +18,44 @@ enum-known-t-2 c = search needs
 
 eval-requires : tie.Need-eval-requires
 eval-requires c κs =
-    let c₁ = c .before .before .before .before .before .before in
-    let c₂ = c₁ .before .before .before .before .before .before in
-    let start = c₂ .before in
-    (start .pre .0, fine (branch-stands (start .pre .1) (c .before .before .before .before .before .terminator-at .ensures) (c .before .before .before .t2 .given .1)))
+    let at-t2 = c .before .before .before in
+    let at-terminator-at = at-t2 .before .before in
+    let to-start = at-terminator-at .before .before .before .before .before .before in
+    let start = to-start .before .before in
+    (start .pre .0, fine (branch-stands (start .pre .1) (at-terminator-at .terminator-at .ensures) (at-t2 .t2 .given .1)))
 
 taken-requires : tie.Need-taken-requires
 taken-requires c κs = search needs
 
 lead-on-requires : tie.Need-lead-on-requires
 lead-on-requires c κs =
-    let c₁ = c .before .before .before .before .before .before in
-    let c₂ = c₁ .before .before .before .before .before .before in
-    let c₃ = c₂ .before .before .before .before .before .before in
-    c₃ .before .pre .1 .dealt
+    let at-eval = c .before .before .before .before .before in
+    let at-terminator-at = at-eval .before .before .before .before .before .before in
+    let to-start = at-terminator-at .before .before .before .before .before .before in
+    let start = to-start .before .before in
+    start .pre .1 .dealt
 
 enum-known-t-3 : tie.Need-enum-known-t-3
 enum-known-t-3 c = search needs
 
 eval-requires-2 : tie.Need-eval-requires-2
 eval-requires-2 c κs =
-    let c₁ = c .before .before .before .before .before .before in
-    let c₂ = c₁ .before .before .before .before .before .before in
-    let start = c₂ .before in
-    (start .pre .0, fine (switch-stands (start .pre .1) (c .before .before .before .before .before .terminator-at .ensures) (c .before .before .before .t3 .given .1)))
+    let at-t3 = c .before .before .before in
+    let at-terminator-at = at-t3 .before .before in
+    let to-start = at-terminator-at .before .before .before .before .before .before in
+    let start = to-start .before .before in
+    (start .pre .0, fine (switch-stands (start .pre .1) (at-terminator-at .terminator-at .ensures) (at-t3 .t3 .given .1)))
 
 chosen-requires : tie.Need-chosen-requires
 chosen-requires c κs = search (needs, switch-cases)
 
 lead-on-requires-2 : tie.Need-lead-on-requires-2
 lead-on-requires-2 c κs =
-    let c₁ = c .before .before .before .before .before .before in
-    let c₂ = c₁ .before .before .before .before .before .before in
-    let c₃ = c₂ .before .before .before .before .before .before in
-    c₃ .before .pre .1 .dealt
+    let at-eval2 = c .before .before .before .before .before in
+    let at-terminator-at = at-eval2 .before .before .before .before .before .before in
+    let to-start = at-terminator-at .before .before .before .before .before .before in
+    let start = to-start .before .before in
+    start .pre .1 .dealt
 
 returns : tie.Need-returns
 returns c = search (needs, terminates-return)
@@ -67,10 +71,12 @@ same-length-2 c = search needs
 
 returns-3 : tie.Need-returns-3
 returns-3 c =
-    let c₁ = c .before .before .before .before .before .before in
-    let c₂ = c₁ .before .before .before .before .before .before in
-    let c₃ = c₂ .before .before .before .before .before .before in
-    terminates-branch (c₂ .terminator-at .ensures) (c₃ .before .before .pre .1) (c₁ .eval .ensures) (c .lead-on .ensures) (c₁ .before .before .before .before .t2 .given .1) (c .before .taken .ensures)
+    let at-eval = c .before .before .before .before .before .before in
+    let at-t2 = at-eval .before .before .before .before in
+    let at-terminator-at = at-t2 .before .before in
+    let to-start = at-terminator-at .before .before .before .before .before .before in
+    let start = to-start .before .before in
+    terminates-branch (at-terminator-at .terminator-at .ensures) (start .pre .1) (at-eval .eval .ensures) (c .lead-on .ensures) (at-t2 .t2 .given .1) (c .before .taken .ensures)
 
 same-length-3 : tie.Need-same-length-3
 same-length-3 c = search needs
@@ -80,10 +86,12 @@ same-length-4 c = search needs
 
 returns-4 : tie.Need-returns-4
 returns-4 c =
-    let c₁ = c .before .before .before .before .before .before in
-    let c₂ = c₁ .before .before .before .before .before .before in
-    let c₃ = c₂ .before .before .before .before .before .before in
-    terminates-switch (c₂ .terminator-at .ensures) (c₃ .before .before .pre .1) (c₁ .eval2 .ensures) (c .lead-on2 .ensures) (c₁ .before .before .before .before .t3 .given .1) (c .before .chosen .ensures)
+    let at-eval2 = c .before .before .before .before .before .before in
+    let at-t3 = at-eval2 .before .before .before .before in
+    let at-terminator-at = at-t3 .before .before in
+    let to-start = at-terminator-at .before .before .before .before .before .before in
+    let start = to-start .before .before in
+    terminates-switch (at-terminator-at .terminator-at .ensures) (start .pre .1) (at-eval2 .eval2 .ensures) (c .lead-on2 .ensures) (at-t3 .t3 .given .1) (c .before .chosen .ensures)
 
 pub terminate-spec : {M : Type 1} → statement M
 terminate-spec =
