@@ -22,6 +22,7 @@ use Rattle.hosting.specs.declared.Stop as code
 use Rattle.hosting.specs.declared.Stop.the-variants.{ReturnedNothing, Returned, Steps, Unknown, NoBlock, NoBlocks, NoReturn, Halted}
 use Rattle.hosting.specs.Ending.{Ending, ended, short}
 use Rattle.hosting.specs.Runs.{Kept}
+use Rattle.passes.specs.Places.{stepsPlace}
 
 -- ---- before a pass
 
@@ -106,7 +107,7 @@ fullOf (Halted at target) = false
 pub record FirstPassed (R : Ran) (record₀ : List ℕ) (s : Stop) (record₁ w : List ℕ) (a : Counts) : Type 0 where
   pub stop : R .stop ≡ s
   pub holds : Holds R w a
-  pub written : length (recordBytes R) ≤ length record₀ → record₁ ≡ sets record₀ 99 (stepsBody (R .steps))
+  pub written : length (recordBytes R) ≤ length record₀ → record₁ ≡ sets record₀ stepsPlace (stepsBody (R .steps))
 
 abbrev pub FirstPassedIf : Ran → List ℕ → Ending Stop → List ℕ → List ℕ → Counts → Type 0
 FirstPassedIf R record₀ (ended s) record₁ w a = FirstPassed R record₀ s record₁ w a

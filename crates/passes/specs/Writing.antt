@@ -17,6 +17,7 @@ use Rattle.hosting.specs.declared.Counts.{Counts}
 use Rattle.hosting.specs.declared.Stop as code
 use Rattle.hosting.specs.Ending.{ended}
 use Rattle.hosting.specs.Walking.{stopEnd}
+use Rattle.passes.specs.Places.{stopPlace, countsPlace, stepsPlace}
 use Rattle.passes.specs.Passing.{Holds}
 
 -- the lengths by the counts a and the workspace w: those of the two streams are their cursors
@@ -44,11 +45,11 @@ pub record Exact (R : Ran) (l : Lengths) (n : ℕ) : Type 0 where
 
 -- the Stop body of what ended a run with so many units
 pub record PutsStop (limit : ℕ) (stop : code.Stop) (record₀ record₁ : List ℕ) : Type 0 where
-  pub bytes : (s : Stop) → stopEnd limit stop ≡ ended s → record₁ ≡ sets record₀ 48 (stopBody s)
+  pub bytes : (s : Stop) → stopEnd limit stop ≡ ended s → record₁ ≡ sets record₀ stopPlace (stopBody s)
 
 -- the Stop and Counts bodies
 pub record PutsFixed (limit : ℕ) (stop : code.Stop) (t : Tally) (record₀ record₁ : List ℕ) : Type 0 where
-  pub bytes : (s : Stop) → stopEnd limit stop ≡ ended s → record₁ ≡ sets (sets record₀ 48 (stopBody s)) 87 (countsBody (t .entered) (t .steps))
+  pub bytes : (s : Stop) → stopEnd limit stop ≡ ended s → record₁ ≡ sets (sets record₀ stopPlace (stopBody s)) countsPlace (countsBody (t .entered) (t .steps))
 
 -- bodies of these lengths can be written from the workspace w with the counts a, in a buffer of n bytes
 pub record Laid (w : List ℕ) (a : Counts) (l : Lengths) (n : ℕ) : Type 0 where
@@ -62,8 +63,8 @@ pub record Laid (w : List ℕ) (a : Counts) (l : Lengths) (n : ℕ) : Type 0 whe
 -- all bodies but those of the streams, and the pairs
 pub record PutsBodies (limit : ℕ) (stop : code.Stop) (w : List ℕ) (a : Counts) (l : Lengths) (record₀ record₁ : List ℕ) : Type 0 where
   pub bytes : (s : Stop) → stopEnd limit stop ≡ ended s
-      → record₁ ≡ sets (sets (sets (sets (sets record₀ 48 (stopBody s)) 87 (countsBody (a .tally .entered) (a .tally .steps))) (99 + l .steps) (variablesBody (view w (a .stored) .variables)))
-      (99 + l .steps + l .variables) (memoryBody (view w (a .stored) .memory))) 0 (pairsOf 48 (lengthsOf l))
+      → record₁ ≡ sets (sets (sets (sets (sets record₀ stopPlace (stopBody s)) countsPlace (countsBody (a .tally .entered) (a .tally .steps))) (stepsPlace + l .steps) (variablesBody (view w (a .stored) .variables)))
+      (stepsPlace + l .steps + l .variables) (memoryBody (view w (a .stored) .memory))) 0 (pairsOf stopPlace (lengthsOf l))
 
 -- the run R ended in the workspace w by the stop x, with so many units at most
 pub record Ended (R : Ran) (limit : ℕ) (x : code.Stop) (w : List ℕ) (a : Counts) : Type 0 where
@@ -72,4 +73,4 @@ pub record Ended (R : Ran) (limit : ℕ) (x : code.Stop) (w : List ℕ) (a : Cou
 
 -- if the steps stood in the buffer, and then the old bytes, the record does
 pub record Completes (R : Ran) (record₀ record₁ : List ℕ) : Type 0 where
-  pub written : (old : List ℕ) → record₀ ≡ sets old 99 (stepsBody (R .steps)) → record₁ ≡ recordBytes R ++ drop (length (recordBytes R)) old
+  pub written : (old : List ℕ) → record₀ ≡ sets old stepsPlace (stepsBody (R .steps)) → record₁ ≡ recordBytes R ++ drop (length (recordBytes R)) old

@@ -7,6 +7,7 @@ ghost use Rattle.memory.specs.Entries.{memoryBody};
 ghost use Rattle.definition.specs.Record.{countsBody, variablesBody};
 ghost use Rattle.workspace.specs.View.{view, Fit};
 ghost use Rattle.stream.specs.Bodies.{pairsOf, lengthsOf, lastEnd};
+ghost use Rattle.passes.specs.Places.{stopPlace, countsPlace, stepsPlace};
 ghost use Rattle.passes.specs.Writing.{Measured, fitsIn, PutsStop, PutsFixed, Laid, PutsBodies};
 use hosting::Counts;
 use hosting::Stop;
@@ -49,12 +50,12 @@ pub fn fits(l: Lengths, n: u64) -> bool
     if LONGEST < l.questions {
         return false;
     }
-    let end = 99 + l.steps + l.variables + l.memory + l.questions;
+    let end = STEPS as u64 + l.steps + l.variables + l.memory + l.questions;
     (end <= LONGEST) & (end <= n)
 }
 
 pub fn put_stop(buffer: &mut [u8], stop: Stop, limit: u64)
-    requires { ⌜ 99 ≤ length (now buffer) ⌝ }
+    requires { ⌜ stepsPlace ≤ length (now buffer) ⌝ }
     ensures { λ _. ⌜ PutsStop limit stop (now (buffer .entry)) (now (buffer .exit)) ⌝ }
 {
     let piece = statements::stops::stop_piece(stop, limit);
@@ -62,8 +63,8 @@ pub fn put_stop(buffer: &mut [u8], stop: Stop, limit: u64)
 }
 
 pub fn put_counts(buffer: &mut [u8], entered: u64, recorded: u64)
-    requires { ⌜ (99 ≤ length (now buffer)) × (entered + recorded < 4294967296) ⌝ }
-    ensures { λ _. ⌜ now (buffer .exit) ≡ sets (now (buffer .entry)) 87 (countsBody entered recorded) ⌝ }
+    requires { ⌜ (stepsPlace ≤ length (now buffer)) × (entered + recorded < 4294967296) ⌝ }
+    ensures { λ _. ⌜ now (buffer .exit) ≡ sets (now (buffer .entry)) countsPlace (countsBody entered recorded) ⌝ }
 {
     stream::counts(&mut buffer[COUNTS..STEPS], entered, recorded);
 }
@@ -85,15 +86,15 @@ pub fn put_memory(buffer: &mut [u8], ws: &[u8], stored: usize, m: usize)
 }
 
 pub fn put_pairs(buffer: &mut [u8], l: Lengths)
-    requires { ⌜ (99 ≤ length (now buffer)) × (lastEnd l < 4294967296) ⌝ }
-    ensures { λ _. ⌜ now (buffer .exit) ≡ sets (now (buffer .entry)) 0 (pairsOf 48 (lengthsOf l)) ⌝ }
+    requires { ⌜ (stepsPlace ≤ length (now buffer)) × (lastEnd l < 4294967296) ⌝ }
+    ensures { λ _. ⌜ now (buffer .exit) ≡ sets (now (buffer .entry)) 0 (pairsOf stopPlace (lengthsOf l)) ⌝ }
 {
     stream::pairs(&mut buffer[0..STOP], l);
 }
 
 // Stop and Counts.
 pub fn put_fixed(buffer: &mut [u8], stop: Stop, limit: u64, tally: Tally)
-    requires { ⌜ (99 ≤ length (now buffer)) × (tally .entered + tally .steps < 4294967296) ⌝ }
+    requires { ⌜ (stepsPlace ≤ length (now buffer)) × (tally .entered + tally .steps < 4294967296) ⌝ }
     ensures { λ _. ⌜ PutsFixed limit stop tally (now (buffer .entry)) (now (buffer .exit)) ⌝ }
 {
     put_stop(buffer, stop, limit);
@@ -128,5 +129,5 @@ pub fn end_of(l: Lengths) -> u32
     requires { ⌜ lastEnd l ≤ 4294967295 ⌝ }
     ensures { λ r. ⌜ r ≡ lastEnd l ⌝ }
 {
-    (99 + l.steps + l.variables + l.memory + l.questions) as u32
+    (STEPS as u64 + l.steps + l.variables + l.memory + l.questions) as u32
 }

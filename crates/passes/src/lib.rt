@@ -15,6 +15,7 @@ ghost use Rattle.workspace.specs.View.{Fit};
 ghost use Rattle.stream.specs.Stream.{most};
 ghost use Rattle.hosting.specs.Setting.{Tabled, givenOf, howOf};
 ghost use Rattle.hosting.specs.Walking.{WalksAll, stopEnd};
+ghost use Rattle.passes.specs.Places.{stepsPlace};
 ghost use Rattle.passes.specs.Passing.{startCounts, fullOf, Holds, Passes, WalksOf, FirstPasses, SecondPassed};
 ghost use Rattle.passes.specs.Writing.{Ended, Exact, Completes};
 use bodies::STEPS;
@@ -153,7 +154,7 @@ fn pass(
 
 // Where the steps start in a buffer of n bytes, or its end.
 fn steps_start(n: usize) -> usize
-    ensures { λ r. ⌜ r ≡ min n 99 ⌝ }
+    ensures { λ r. ⌜ r ≡ min n stepsPlace ⌝ }
 {
     if n < STEPS { n } else { STEPS }
 }
@@ -191,7 +192,7 @@ fn second_pass(
     requires { ⌜ workspaceSize ≤ length (now ws) ⌝ }
     requires { ⌜ Tabled (now routine) (now world) (now ws) index ⌝ }
     requires { ⌜ Holds (ran (now routine) (now world) (now call)) (now ws) at ⌝ }
-    requires { ⌜ (99 ≤ q) × (q + at .tally .asked ≤ length (now buffer)) ⌝ }
+    requires { ⌜ (stepsPlace ≤ q) × (q + at .tally .asked ≤ length (now buffer)) ⌝ }
     ensures { λ r. ⌜ SecondPassed (ran (now (routine .entry)) (now (world .entry)) (now (call .entry))) (now (buffer .entry)) q (now (buffer .exit)) (now (ws .exit)) r ⌝ }
 {
     let tally = at.tally;
