@@ -1,10 +1,9 @@
 -- Tiny routines, run by the definition: document 01's own. Hex says where the bytes come from and what each row is. Assumes nothing.
 use mathlib.Core.Path.{_≡_, refl}
-use mathlib.Core.List.{List, [], _∷_}
+use mathlib.Core.List.{List, [], _∷_, map}
 use Prim.Native.Nat.{ℕ}
 use Rattle.definition.proofs.Hex.{hex, lines, no-world}
 use Rattle.definition.proofs.Compute.{recordComputed, listingComputed, numberComputed, constantComputed}
-use mathlib.Core.List.{map}
 use mathlib.Core.Bool.{true}
 use mathlib.Core.Option.{none, some}
 use Rattle.value.specs.Value.{type, knownVal}

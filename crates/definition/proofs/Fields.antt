@@ -11,7 +11,7 @@ use lib.ListN.{length, take, length-take}
 use lib.Dec.{lit<}
 use Rattle.layout.specs.Each.{Each}
 use Rattle.value.specs.declared.Val.{Val}
-use Rattle.layout.specs.Format.{number, flag, flagOf, boolOf}
+use Rattle.layout.specs.Format.{flag, flagOf, boolOf}
 use Rattle.definition.specs.Question.{Asked, addressOf, sizeOf, readAt, callTo, Question, Answer, cutVal, cut}
 use Rattle.value.specs.Encoding.{fromVal, toVal, val}
 use Rattle.definition.specs.Fields.{flagAndNumber, codeOf, askedOf, asked, fromSpan, toSpan, fromCalling, toCalling, question, Fields, fieldsOf, fields, Written, entry}

@@ -21,7 +21,7 @@ use Rattle.files.specs.Program.{Tree, tree, Trees, nodeAt, FunctionName, Addres
 use Rattle.files.specs.Spells.{next, size}
 use Rattle.definition.specs.Question.{World, Calling, callTo, cut, cutVal}
 use Rattle.definition.specs.Act.{Act, done, ask, set, leave, End, gave, _>>=_}
-use Rattle.value.specs.Encoding.{val}
+use Rattle.value.specs.Encoding.{val, Whole}
 use Rattle.definition.specs.Term.{Term, Terms, noTerms, moreTerms, node, is, kid, kids, rest, nothing}
 use Rattle.definition.specs.Evaluate.{Env, look, looks, followed, takenBy, takeAll}
 use Rattle.definition.specs.Walk.{followAt}
@@ -32,7 +32,6 @@ use Rattle.stream.proofs.QuestionLaws.{call-bytes}
 use Rattle.workspace.specs.Parts.{tables, notePart, registersPart}
 use Rattle.workspace.specs.Note.{pendingIn, withName, Open}
 use Rattle.workspace.specs.Registers.{wordAt}
-use Rattle.value.specs.Encoding.{Whole}
 use Rattle.workspace.specs.Types.{declaredAt}
 use Rattle.workspace.specs.View.{View, view, Fit, Changes, setting, leaving, noting}
 use Rattle.workspace.specs.Post.{declarationAs}

@@ -7,8 +7,7 @@ use native.Mathlib.Omega.{arith}
 use lib.ListN.{length, drop, replicate, length-replicate, length-drop}
 use lib.Seq.{length-take-le}
 use borrow.Rule.Slice.PartMut.{putMid, midOf, same-len-mid, drop-put}
-use Rattle.layout.proofs.StoreLaws.{mid-put}
-use Rattle.layout.proofs.StoreLaws.{all-take, all-drop}
+use Rattle.layout.proofs.StoreLaws.{mid-put, all-take, all-drop}
 use Rattle.workspace.specs.Parts.{part, workspaceSize, memorySize, framePlace, frameSize, noteSize, registersSize, tablesPlace, memoryPart, framePart, notePart, tables}
 use Rattle.workspace.specs.Variables.{variablesIn}
 use Rattle.workspace.specs.Note.{pendingIn}

@@ -8,7 +8,6 @@ use Rattle.definition.specs.Act.{Act, done, fail, End, gave, stopped, noNote}
 use Rattle.definition.specs.Evaluate.{Did, did}
 use Rattle.definition.specs.Statements as statements
 use Rattle.definition.specs.Walk as walk
-use Rattle.hosting.specs.declared.Stop.{Stop}
 use Rattle.hosting.specs.Ending.{Ending, ended, short, shortOf, didOf}
 use Rattle.hosting.specs.Walking.{stopEnd}
 use Rattle.statements.specs.declared.terminators.Spot.{Spot}

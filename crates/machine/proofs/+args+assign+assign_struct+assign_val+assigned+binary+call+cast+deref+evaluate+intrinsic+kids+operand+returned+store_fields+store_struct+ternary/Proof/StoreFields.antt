@@ -1,8 +1,6 @@
 -- The member `store_fields` of the cycle of calls. Assumes nothing.
 use mathlib.Core.Path.{_≡_, _∙_}
 use Prim.Native.Nat.{ℕ, _-_}
-use Prim.Native.Nat.{ℕ, _-_}
-use Prim.Native.Nat.{ℕ, _-_}
 use native.Mathlib.Omega.{arith}
 use lib.ListN.{length}
 use borrow.Author.Needs.{needs}
