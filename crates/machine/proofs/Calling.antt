@@ -2,11 +2,11 @@
 use mathlib.Core.Path.{_≡_, refl, sym, ap, ap₂, _∙_, subst}
 use mathlib.Core.Bool.{Bool, true, false}
 use mathlib.Core.List.{List, [], _∷_, _++_}
-use Prim.Native.Nat.{ℕ, zero, suc, _+_, _*_, _≤_}
+use Prim.Native.Nat.{ℕ, _+_, _*_, _≤_}
 use native.Mathlib.Omega.{arith}
 use lib.ListN.{length, take, drop}
 use lib.Seq.{take-take, take-add, drop-drop, take-at}
-use Rattle.layout.proofs.StoreLaws.{take-sets, drop-sets-at}
+use Rattle.layout.proofs.StoreLaws.{take-sets, drop-sets-at, part-take}
 use Rattle.value.specs.declared.Val.{Val}
 use Rattle.files.specs.Nodes.{kindOf}
 use Rattle.files.specs.Program.{Tree, tree, Trees, nodeAt}
@@ -33,19 +33,13 @@ use Rattle.machine.proofs.Evaluating.{by}
 
 -- ---- values in bytes
 
-window : (j m n : ℕ) (s : List ℕ) → j + m ≤ n → take m (drop j (take n s)) ≡ take m (drop j s)
-window zero m n s h = take-take m n s (omega (arith, h))
-window (suc j) m zero s h = absurd (omega (arith, h))
-window (suc j) m (suc n) [] h = refl
-window (suc j) m (suc n) (x ∷ xs) h = window j m n xs (omega (arith, h))
-
 no-values : (s : List ℕ) (k : ℕ) → ValuesIn s k 0 []
 no-values s k = record { bytes = refl; many = refl; whole = tt }
 
 module _ (vals vals′ vals″ : List ℕ) (k : ℕ) {v : Val} (room : k * 14 + 14 ≤ length vals) (put : PutsVal vals k v vals′) (kept : take ((k + 1) * 14) vals″ ≡ take ((k + 1) * 14) vals′) where
   first-value : part (k * 14) 14 vals″ ≡ valBytes v
   first-value =
-      sym (window (k * 14) 14 ((k + 1) * 14) vals″ (omega arith)) ∙ ap (λ (s : List ℕ). take 14 (drop (k * 14) s)) kept ∙ window (k * 14) 14 ((k + 1) * 14) vals′ (omega arith)
+      sym (part-take (k * 14) 14 ((k + 1) * 14) vals″ (omega arith)) ∙ ap (λ (s : List ℕ). take 14 (drop (k * 14) s)) kept ∙ part-take (k * 14) 14 ((k + 1) * 14) vals′ (omega arith)
       ∙ ap (λ (s : List ℕ). take 14 (drop (k * 14) s)) (put .bytes)
       ∙ ap (take 14) (drop-sets-at (valBytes v) vals (k * 14) (omega (arith, length-valBytes v)))
       ∙ take-at (valBytes v) (drop (k * 14 + length (valBytes v)) vals) 14 (length-valBytes v)

@@ -1,7 +1,5 @@
-// The machine: expressions in a routine's nodes, evaluated and executed against a world, in a lent workspace, with what they ask written to a lent part.
-// The cycle of calls is in this file: each member dispatches and combines. What else they do is in the crate of operations.
-// What an evaluation comes to is handed on in the workspace's registers, so that a level of the tree takes little of the stack; from sibling to sibling a member
-// goes by a loop, so that the stack grows with the depth of a tree alone.
+// The machine: the cycle of calls that evaluates and executes a routine's nodes in a lent workspace, with what they ask written to a lent part.
+// Results go on in the workspace's registers, and from sibling to sibling a member goes by a loop: the stack grows with a tree's depth alone.
 ghost use mathlib.Core.Path.{_≡_};
 ghost use Prim.Native.Nat.{_<_};
 ghost use lib.ListN.{length};
