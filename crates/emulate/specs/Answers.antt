@@ -7,7 +7,7 @@ use lib.Seq.{sets}
 use Rattle.definition.specs.Record.{stepsBody}
 use Rattle.definition.specs.Run.{ran, recordOf}
 use Rattle.definition.specs.Answered.{Answered}
-use Rattle.passes.specs.Places.{stepsPlace}
+use Rattle.stream.specs.Bodies.{stepsPlace}
 
 -- what `run` gives, from where the first pass left the buffer and the workspace
 pub record AnswersFrom (routine world call record₁ workspace₁ : List ℕ) (n l : ℕ) (record₂ workspace₂ : List ℕ) : Type 0 where

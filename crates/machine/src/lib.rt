@@ -175,7 +175,8 @@ fn deref(
     places::load_at(regions, ws, out, address.number, pointer.ty)
 }
 
-// A Ternary: both arms are evaluated. A loop has one call of the cycle in the code, and three would each have room for slices in the frame of a level.
+// A Ternary: both arms are evaluated. By a loop, since each call of the cycle in the code has room for its slices in the frame of a level.
+// After three rounds the last two values that were kept are the condition's and the first arm's; what was kept before falls out.
 fn ternary(
     nodes: &[u8],
     symbols: &[u8],

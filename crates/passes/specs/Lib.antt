@@ -1,4 +1,3 @@
-pub mod Places
 pub mod Passing
 pub mod Writing
 pub mod Evaluating

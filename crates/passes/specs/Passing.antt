@@ -22,7 +22,7 @@ use Rattle.hosting.specs.declared.Stop as code
 use Rattle.hosting.specs.declared.Stop.the-variants.{ReturnedNothing, Returned, Steps, Unknown, NoBlock, NoBlocks, NoReturn, Halted}
 use Rattle.hosting.specs.Ending.{Ending, ended, short}
 use Rattle.hosting.specs.Runs.{Kept}
-use Rattle.passes.specs.Places.{stepsPlace}
+use Rattle.stream.specs.Bodies.{stepsPlace}
 
 -- ---- before a pass
 

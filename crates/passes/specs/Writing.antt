@@ -11,13 +11,12 @@ use Rattle.memory.specs.Entries.{memoryBody}
 use Rattle.definition.specs.Record.{Ran, stopBody, countsBody, stepsBody, variablesBody, questionsBody, recordBytes}
 use Rattle.workspace.specs.View.{view, Fit}
 use Rattle.stream.specs.declared.Lengths.{Lengths}
-use Rattle.stream.specs.Bodies.{pairsOf, lengthsOf, lastEnd}
+use Rattle.stream.specs.Bodies.{stopPlace, countsPlace, stepsPlace, pairsOf, lengthsOf, lastEnd}
 use Rattle.hosting.specs.declared.Tally.{Tally}
 use Rattle.hosting.specs.declared.Counts.{Counts}
 use Rattle.hosting.specs.declared.Stop as code
 use Rattle.hosting.specs.Ending.{ended}
 use Rattle.hosting.specs.Walking.{stopEnd}
-use Rattle.passes.specs.Places.{stopPlace, countsPlace, stepsPlace}
 use Rattle.passes.specs.Passing.{Holds}
 
 -- the lengths by the counts a and the workspace w: those of the two streams are their cursors

@@ -15,7 +15,7 @@ ghost use Rattle.workspace.specs.View.{Fit};
 ghost use Rattle.stream.specs.Stream.{most};
 ghost use Rattle.hosting.specs.Setting.{Tabled, givenOf, howOf};
 ghost use Rattle.hosting.specs.Walking.{WalksAll, stopEnd};
-ghost use Rattle.passes.specs.Places.{stepsPlace};
+ghost use Rattle.stream.specs.Bodies.{stepsPlace};
 ghost use Rattle.passes.specs.Passing.{startCounts, fullOf, Holds, Passes, WalksOf, FirstPasses, SecondPassed};
 ghost use Rattle.passes.specs.Writing.{Ended, Exact, Completes};
 use bodies::STEPS;

@@ -12,7 +12,7 @@ ghost use Rattle.definition.specs.Record.{wroteFields, countsBody};
 ghost use Rattle.stream.specs.Stream.{advanced, Sent};
 ghost use Rattle.stream.specs.Pieces.{optional, askedBy, questionBytes, symbolEntry, readEntry, callBytes, takenCount, stepBytes, stepFrom};
 ghost use Rattle.stream.specs.Groups.{flaggedBytes, spanBytes, calleeBytes, placeBytes, wroteBytes, noteBytes, namesBytes, causeBytes, namedBytes};
-ghost use Rattle.stream.specs.Bodies.{stopBytes, stopFrom, pairsOf, lengthsOf, lastEnd};
+ghost use Rattle.stream.specs.Bodies.{stopBytes, stopFrom, stopSize, stopPlace, pairsOf, lengthsOf, lastEnd};
 use layout::put8;
 use layout::put16;
 use layout::put32;
@@ -380,7 +380,7 @@ fn put_cause(part: &mut [u8], s: StopPiece)
 
 // The rest of it.
 fn put_named(part: &mut [u8], s: StopPiece)
-    requires { ⌜ 39 ≤ length (now part) ⌝ }
+    requires { ⌜ stopSize ≤ length (now part) ⌝ }
     ensures { λ _. ⌜ now (part .exit) ≡ sets (now (part .entry)) 11 (namedBytes (s .number) (s .node) (s .name) (s .value)) ⌝ }
 {
     put64(part, 11, s.number);
@@ -391,7 +391,7 @@ fn put_named(part: &mut [u8], s: StopPiece)
 
 // Stop.
 pub fn stop(part: &mut [u8], s: StopPiece)
-    requires { ⌜ 39 ≤ length (now part) ⌝ }
+    requires { ⌜ stopSize ≤ length (now part) ⌝ }
     ensures { λ _. ⌜ now (part .exit) ≡ sets (now (part .entry)) 0 (stopBytes (stopFrom s)) ⌝ }
 {
     put_cause(part, s);
@@ -438,8 +438,8 @@ fn put_three(part: &mut [u8], at: usize, offset: u64, a: u64, b: u64, c: u64) ->
 
 // The six pairs.
 pub fn pairs(part: &mut [u8], l: Lengths)
-    requires { ⌜ (48 ≤ length (now part)) × (lastEnd l < 4294967296) ⌝ }
-    ensures { λ _. ⌜ now (part .exit) ≡ sets (now (part .entry)) 0 (pairsOf 48 (lengthsOf l)) ⌝ }
+    requires { ⌜ (stopPlace ≤ length (now part)) × (lastEnd l < 4294967296) ⌝ }
+    ensures { λ _. ⌜ now (part .exit) ≡ sets (now (part .entry)) 0 (pairsOf stopPlace (lengthsOf l)) ⌝ }
 {
     let next = put_three(part, 0, 48, 39, 12, l.steps);
     put_three(part, 24, next, l.variables, l.memory, l.questions);
