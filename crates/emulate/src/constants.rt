@@ -42,7 +42,7 @@ fn known_only(v: Val) -> Constant
 fn if_full(s: Short) -> u32
     ensures { λ r. ⌜ r ≡ refusalOf (Ends s) ⌝ }
 {
-    if s.reason == 0 { 21 } else { 0 }
+    if s.reason == Short::FULL { 21 } else { 0 }
 }
 
 // What an evaluation comes to.

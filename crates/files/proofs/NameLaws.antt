@@ -1,35 +1,32 @@
 -- What the tests of a text, of a name and of a type show. Assumes nothing.
 use mathlib.Core.Path.{_≡_, refl, sym, _∙_}
-use mathlib.Core.Bool.{Bool, true, false, not, and-false}
+use mathlib.Core.Bool.{Bool, true, false, not, _&&_, and-true, and-false}
 use mathlib.Core.List.{List, []}
 use Prim.Native.Nat.{ℕ, _+_, _-_, _≤_, _<_}
 use native.Mathlib.Numerals.{add-one}
 use native.Mathlib.Omega.{arith}
 use borrow.Author.Tests.{le-leb, lt-leb, lt-ltb, le-ltb, ltb-true, ltb-false, eq-eqb, ne-eqb, not-true, not-false}
-use lib.Dec.{ltb}
+use lib.Dec.{ltb, leb}
 use lib.ListN.{length, getD, drop, drop-of-length-le}
 use lib.Seq.{drop-cons}
 use Rattle.files.specs.Bytes.{part}
 use Rattle.files.specs.Names.{printable, before, last, nameAt, typeAt}
 
--- at a place of a loop over the bytes: the answer b is what is left of the text
-module _ (lo hi : ℕ) (s : List ℕ) (i : ℕ) (b : Bool) (e : b ≡ printable lo hi (drop i s)) where
-  pub printable-end : length s ≤ i → true ≡ b
+-- at a place of a loop over the bytes: the answer b is that of those before and of what is left of the text
+module _ (lo hi : ℕ) (s : List ℕ) (i : ℕ) (b ok : Bool) (e : b ≡ (ok && printable lo hi (drop i s))) where
+  pub printable-end : length s ≤ i → ok ≡ b
   unfolding printable
-  printable-end h = sym (e ∙ rw (drop-of-length-le s h))
+  printable-end h = sym (e ∙ rw (drop-of-length-le s h, and-true ok))
 
-  pub printable-low : i < length s → getD s i 0 < lo → false ≡ b
+  pub printable-on : i < length s → b ≡ (ok && leb lo (getD s i 0) && leb (getD s i 0) hi && printable lo hi (drop (i + 1) s))
   unfolding printable
-  printable-low h l = sym (e ∙ rw (drop-cons s i 0 h, lt-leb _ _ l))
+  printable-on h = e ∙ rw (add-one, drop-cons s i 0 h) (go ok _ _ _)
+    where
+      go : (z x y r : Bool) → (z && (x && y && r)) ≡ (z && x && y && r)
+      go true x y r = refl
+      go false x y r = refl
 
-  pub printable-high : i < length s → hi < getD s i 0 → false ≡ b
-  unfolding printable
-  printable-high h l = sym (e ∙ rw (drop-cons s i 0 h, lt-leb _ _ l, and-false))
-
-  pub printable-on : i < length s → lo ≤ getD s i 0 → getD s i 0 ≤ hi → b ≡ printable lo hi (drop (i + 1) s)
-  unfolding printable
-  printable-on h l u = e ∙ rw (add-one, drop-cons s i 0 h, le-leb _ _ l, le-leb _ _ u)
-
+-- at a place of a loop over two texts: the answer b is what is left of both
 module _ (s t : List ℕ) (i : ℕ) (b : Bool) (e : b ≡ before (drop i s) (drop i t)) where
   pub before-end : length s ≤ i → ltb i (length t) ≡ b
   unfolding before

@@ -103,3 +103,7 @@ module _ (b : List ℕ) (depth parent n e c a : ℕ) (h : a ≡ trees b depth pa
         pub trees-on : not t ≡ false → a ≡ trees b depth parent (n + s) e (c + 1)
         unfolding trees
         trees-on g = goes ∙ simp (not-false t g) (sym (more b (length b) depth parent (n + s) e (c + 1) (omega arith)))
+
+-- a node that is its whole span has no children that could be wrong
+pub no-kids : (b : List ℕ) (depth parent n s j : ℕ) → s ≤ 1 → j ≡ 1 → j ≡ trees b depth parent (n + 1) (n + s) 0
+no-kids b depth parent n s j l e = e ∙ trees-end b depth parent (n + 1) (n + s) 0 _ refl (omega arith)

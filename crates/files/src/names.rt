@@ -10,22 +10,18 @@ const MOST: usize = 512;
 // The most bytes of one.
 const LONGEST: usize = 64;
 
-// Whether each byte is from lo to hi.
+// Whether each byte is from lo to hi. All are looked at, so that the loop is compiled to one over many bytes at once.
 fn printed(s: &[u8], lo: u8, hi: u8) -> bool
     ensures { λ r. ⌜ r ≡ printable lo hi (now (s .entry)) ⌝ }
 {
+    let mut ok = true;
     let mut i = 0;
     while i < s.len() {
         let x = s[i];
-        if x < lo {
-            return false;
-        }
-        if hi < x {
-            return false;
-        }
+        ok = ok & (lo <= x) & (x <= hi);
         i += 1;
     }
-    true
+    ok
 }
 
 // Whether s comes before t: at the first byte that differs, or where s ends and t goes on.

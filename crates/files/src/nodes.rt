@@ -8,10 +8,30 @@ ghost use Rattle.files.specs.Rules.{row};
 // The bytes of a node.
 pub const SIZE: usize = 20;
 
-// How many kinds there are, and the two that decide where a node may stand.
+// How many kinds there are, and those that are tested for.
 pub const KINDS: u8 = 20;
 
-pub const STRUCT: u8 = 17;
+pub const CONSTANT: u8 = 0;
+
+pub const VAR: u8 = 1;
+
+pub const FUNCTION_NAME: u8 = 4;
+
+pub const CAST: u8 = 8;
+
+pub const DEREF: u8 = 9;
+
+pub const ADDRESS_OF: u8 = 10;
+
+pub const ASSIGN: u8 = 13;
+
+pub const CALL: u8 = 14;
+
+pub const INTRINSIC: u8 = 15;
+
+pub const RETURN: u8 = 16;
+
+pub const STRUCT_INIT: u8 = 17;
 
 pub const FIELD: u8 = 18;
 

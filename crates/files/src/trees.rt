@@ -16,8 +16,8 @@ const TOP: u8 = 20;
 fn is_placed(kind: u8, parent: u8) -> bool
     ensures { λ r. ⌜ r ≡ placedOk kind parent ⌝ }
 {
-    ((kind == nodes::FIELD) & (parent == nodes::STRUCT))
-        | (!(kind == nodes::FIELD) & !(parent == nodes::STRUCT))
+    ((kind == nodes::FIELD) & (parent == nodes::STRUCT_INIT))
+        | (!(kind == nodes::FIELD) & !(parent == nodes::STRUCT_INIT))
 }
 
 // Whether a kind may have c - 1 children; c is 0 where they are not as they must be.
@@ -54,7 +54,11 @@ fn count(b: &[u8], depth: usize, parent: u8, n: usize, e: usize) -> usize
         if !is_placed(kind, parent) {
             return 0;
         }
-        let kids = count(b, depth - 1, kind, at + 1, at + span);
+        // A node without children, as most are, takes no call.
+        let mut kids = 1;
+        if 1 < span {
+            kids = count(b, depth - 1, kind, at + 1, at + span);
+        }
         if !is_counted(kind, kids) {
             return 0;
         }

@@ -25,10 +25,33 @@ pub struct How {
     pub second: bool,
 }
 
-// Why an evaluation ends short: a reason and what it names; 0 where the workspace has no room for another written address.
+// Why an evaluation ends short: a reason and what it names.
 pub struct Short {
     pub reason: u64,
     pub number: u64,
+}
+
+// The reasons by the record's numbers, and 0, which no record has: the workspace has no room for another written address.
+impl Short {
+    pub const FULL: u64 = 0;
+
+    pub const BRANCH_UNKNOWN: u64 = 1;
+
+    pub const SWITCH_UNKNOWN: u64 = 2;
+
+    pub const NO_CASE: u64 = 3;
+
+    pub const STRUCT_TO: u64 = 4;
+
+    pub const UNKNOWN_ADDRESS: u64 = 5;
+
+    pub const UNKNOWN_VALUE: u64 = 6;
+
+    pub const NO_WIDTH: u64 = 7;
+
+    pub const STORE_TO: u64 = 8;
+
+    pub const BY_ZERO: u64 = 9;
 }
 
 pub enum Outcome {
@@ -80,7 +103,7 @@ pub struct Facts {
     pub halted: usize,
 }
 
-// Why a run stopped. Unknown has reason 0 where the workspace has no room for another written address.
+// Why a run stopped. Unknown with reason FULL is no stop of the definition: the run is refused.
 pub enum Stop {
     ReturnedNothing,
     Returned(Val),

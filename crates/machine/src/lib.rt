@@ -14,6 +14,7 @@ use hosting::Counts;
 use hosting::Evaluated;
 use hosting::Executed;
 use hosting::How;
+use hosting::Short;
 use operations::calls;
 use operations::names;
 use operations::places;
@@ -64,13 +65,44 @@ pub fn execute(
     ensures { λ r. ⌜ Executes (given (now (nodes .entry)) (now (symbols .entry)) (now (regions .entry)) how) n (now (ws .entry)) (now (out .entry)) at r (now (ws .exit)) (now (out .exit)) ⌝ }
 {
     results::enter(ws, how, at);
-    let ok = evaluate(nodes, symbols, regions, ws, out, n);
     let kind = nodes::kind(nodes, n);
-    if kind == 13 {
-        results::executed(ws, ok)
-    } else {
-        results::noted(ws, kind, ok)
+    if kind == nodes::ASSIGN {
+        let ok = execute_assign(nodes, symbols, regions, ws, out, n);
+        return results::executed(ws, ok);
     }
+    let ok = evaluate(nodes, symbols, regions, ws, out, n);
+    results::noted(ws, kind, ok)
+}
+
+// An Assign that is a statement. To a variable, as most are, it takes no call of the cycle for itself: what it does there is said in `assign`.
+fn execute_assign(
+    nodes: &[u8],
+    symbols: &[u8],
+    regions: &[u8],
+    ws: &mut [u8],
+    out: &mut [u8],
+    n: usize,
+) -> bool
+    requires { ⌜ ReadyIn (given (now nodes) (now symbols) (now regions)) (now ws) ⌝ }
+    requires { ⌜ Fine (now nodes) n ⌝ }
+    requires { ⌜ kindOf (now nodes) n ≡ 13 ⌝ }
+    ensures { λ r. ⌜ Assigns (now (nodes .entry)) (now (symbols .entry)) (now (regions .entry)) n (now (ws .entry)) (now (out .entry)) r (now (ws .exit)) (now (out .exit)) ⌝ }
+{
+    let left = n + 1;
+    let right = places::next(nodes, left);
+    let target = nodes::kind(nodes, left);
+    if target != nodes::VAR {
+        return evaluate(nodes, symbols, regions, ws, out, n);
+    }
+    let kind = nodes::kind(nodes, right);
+    if kind == nodes::STRUCT_INIT {
+        return evaluate(nodes, symbols, regions, ws, out, n);
+    }
+    if !evaluate(nodes, symbols, regions, ws, out, right) {
+        return false;
+    }
+    let v = registers::value(ws, results::RESULT);
+    names::write(nodes, symbols, ws, out, left, v)
 }
 
 // The expression at node n is evaluated. Of an Assign the registers also tell what it did.
@@ -276,7 +308,7 @@ fn assign(
     let left = n + 1;
     let right = places::next(nodes, left);
     let kind = nodes::kind(nodes, right);
-    if kind == 17 {
+    if kind == nodes::STRUCT_INIT {
         return assign_struct(nodes, symbols, regions, ws, out, left, right);
     }
     if !operand(nodes, symbols, regions, ws, out, right) {
@@ -300,11 +332,11 @@ fn assign_val(
 {
     let v = registers::value(ws, results::RESULT);
     let kind = nodes::kind(nodes, left);
-    if kind == 1 {
+    if kind == nodes::VAR {
         return names::write(nodes, symbols, ws, out, left, v);
     }
-    if kind != 9 {
-        return results::ends(ws, 8, left as u64);
+    if kind != nodes::DEREF {
+        return results::ends(ws, Short::STORE_TO, left as u64);
     }
     let target = left + 1;
     let pointer = places::target_of(nodes, ws, target);
@@ -332,8 +364,8 @@ fn assign_struct(
     ensures { λ r. ⌜ AssignsStruct (now (nodes .entry)) (now (symbols .entry)) (now (regions .entry)) left right (now (ws .entry)) (now (out .entry)) r (now (ws .exit)) (now (out .exit)) ⌝ }
 {
     let kind = nodes::kind(nodes, left);
-    if kind != 9 {
-        return results::ends(ws, 4, left as u64);
+    if kind != nodes::DEREF {
+        return results::ends(ws, Short::STRUCT_TO, left as u64);
     }
     let base = places::base(nodes, left + 1);
     if !evaluate(nodes, symbols, regions, ws, out, base) {
@@ -359,7 +391,7 @@ fn store_struct(
 {
     let v = registers::value(ws, results::RESULT);
     if !v.known {
-        return results::ends(ws, 5, base as u64);
+        return results::ends(ws, Short::UNKNOWN_ADDRESS, base as u64);
     }
     let first = right + 1;
     let end = places::next(nodes, right);
@@ -491,7 +523,7 @@ fn kids(
     let mut i = n;
     while i != end {
         let more = places::next(nodes, i);
-        if !evaluate(nodes, symbols, regions, ws, out, i) {
+        if !operand(nodes, symbols, regions, ws, out, i) {
             return false;
         }
         i = more;

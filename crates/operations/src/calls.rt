@@ -39,7 +39,7 @@ fn follow(nodes: &[u8], ws: &mut [u8], out: &mut [u8], vals: &[u8], count: usize
     requires { ⌜ length (now vals) ≡ 224 ⌝ }
     ensures { λ _. ⌜ Follows (now (nodes .entry)) (now (vals .entry)) count n (now (ws .entry)) (now (out .entry)) (now (ws .exit)) (now (out .exit)) ⌝ }
 {
-    if nodes::kind(nodes, n) != 4 {
+    if nodes::kind(nodes, n) != nodes::FUNCTION_NAME {
         return;
     }
     if registers::word(ws, DEPTH) == 0 {
@@ -60,10 +60,10 @@ fn take(nodes: &[u8], ws: &mut [u8], n: usize)
     requires { ⌜ NoteOpen (now ws) ⌝ }
     ensures { λ _. ⌜ Takes (now (nodes .entry)) n (now (ws .entry)) (now (ws .exit)) ⌝ }
 {
-    if nodes::kind(nodes, n) != 10 {
+    if nodes::kind(nodes, n) != nodes::ADDRESS_OF {
         return;
     }
-    if nodes::kind(nodes, n + 1) != 1 {
+    if nodes::kind(nodes, n + 1) != nodes::VAR {
         return;
     }
     let name = nodes::reference(nodes, n + 1);

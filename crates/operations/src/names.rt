@@ -9,6 +9,7 @@ use crate::results::wrote;
 use crate::values::constant;
 use crate::values::unknown;
 use files::nodes;
+use hosting::Short;
 use index::Maybe;
 use index::symbols;
 use stream::Symbol;
@@ -224,7 +225,7 @@ pub fn address(nodes: &[u8], symbols: &[u8], ws: &mut [u8], out: &mut [u8], n: u
     requires { ⌜ Fine (now nodes) n ⌝ }
     ensures { λ r. ⌜ Addresses (now (nodes .entry)) (now (symbols .entry)) n (now (ws .entry)) (now (out .entry)) r (now (ws .exit)) (now (out .exit)) ⌝ }
 {
-    if nodes::kind(nodes, n) != 1 {
+    if nodes::kind(nodes, n) != nodes::VAR {
         return unknown(ws, 64, false);
     }
     let a = ask_address(nodes, symbols, ws, out, n);
@@ -261,7 +262,7 @@ fn write_symbol(
     let s = ask_size(nodes, symbols, ws, out, n);
     let bits = width_of(s.known, s.number);
     if bits == 0 {
-        return ends(ws, 7, name as u64);
+        return ends(ws, Short::NO_WIDTH, name as u64);
     }
     let signed = v.signed;
     let c = v.cast(Ty { bits, signed });

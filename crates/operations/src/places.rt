@@ -11,6 +11,7 @@ use crate::results::written;
 use crate::values::type_of;
 use crate::values::unknown;
 use files::nodes;
+use hosting::Short;
 use index::regions;
 use memory::Image;
 use memory::Loaded;
@@ -59,7 +60,7 @@ pub fn target_of(nodes: &[u8], ws: &[u8], n: usize) -> Target
     ensures { λ r. ⌜ Targets (now (nodes .entry)) (now (ws .entry)) n r ⌝ }
 {
     let kind = nodes::kind(nodes, n);
-    if kind == 8 {
+    if kind == nodes::CAST {
         let p = types::pointee(ws, nodes::reference(nodes, n));
         if let Pointee::Of(ty) = p {
             return Target { node: n + 1, ty };
@@ -80,7 +81,7 @@ pub fn base(nodes: &[u8], n: usize) -> usize
     ensures { λ r. ⌜ r ≡ baseAt (now (nodes .entry)) n ⌝ }
 {
     let kind = nodes::kind(nodes, n);
-    if kind == 8 { n + 1 } else { n }
+    if kind == nodes::CAST { n + 1 } else { n }
 }
 
 // ---- memory
@@ -148,7 +149,7 @@ pub fn store_value(ws: &mut [u8], address: u64, v: Val) -> bool
     ensures { λ r. ⌜ Works (storeVal address v) (now (ws .entry)) (unitIn r (now (ws .exit))) (now (ws .exit)) ⌝ }
 {
     if !v.known {
-        return ends(ws, 6, address);
+        return ends(ws, Short::UNKNOWN_VALUE, address);
     }
     let stored = registers::word(ws, STORED) as usize;
     let s = workspace::store_number(ws, stored, address, v.number, v.bits as usize / 8);
@@ -157,7 +158,7 @@ pub fn store_value(ws: &mut [u8], address: u64, v: Val) -> bool
             registers::set_word(ws, STORED, n as u64);
             true
         }
-        Stored::Full => ends(ws, 0, 0),
+        Stored::Full => ends(ws, Short::FULL, 0),
     }
 }
 
@@ -168,7 +169,7 @@ pub fn store(ws: &mut [u8], n: usize, ty: Ty, v: Val) -> bool
 {
     let p = registers::value(ws, RESULT);
     if !p.known {
-        return ends(ws, 5, n as u64);
+        return ends(ws, Short::UNKNOWN_ADDRESS, n as u64);
     }
     let c = v.cast(ty);
     if !store_value(ws, p.number, c) {

@@ -1,4 +1,5 @@
 // What an evaluation comes to, put in the registers and taken from them.
+use files::nodes;
 use hosting::Counts;
 use hosting::Did;
 use hosting::Done;
@@ -260,7 +261,7 @@ pub fn noted(ws: &[u8], kind: u8, ok: bool) -> Executed
         };
     }
     let v = registers::value(ws, RESULT);
-    let called = (kind == 14) | (kind == 15);
+    let called = (kind == nodes::CALL) | (kind == nodes::INTRINSIC);
     if called & !v.known & !note::has_note(ws) {
         notes(Note::Unknown, at)
     } else {

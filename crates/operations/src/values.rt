@@ -5,6 +5,7 @@ use crate::results::WROTE;
 use crate::results::ends;
 use crate::results::is;
 use files::nodes;
+use hosting::Short;
 use value::Answer;
 use value::BinaryOp;
 use value::Ty;
@@ -99,7 +100,7 @@ pub fn operate(nodes: &[u8], ws: &mut [u8], n: usize, l: Val) -> bool
     let answer = value::binary(op, l, r);
     match answer {
         Answer::Value(v) => is(ws, v),
-        Answer::DivisionByZero => ends(ws, 9, 0),
+        Answer::DivisionByZero => ends(ws, Short::BY_ZERO, 0),
     }
 }
 

@@ -24,6 +24,7 @@ use files::table::body;
 use hosting::Counts;
 use hosting::How;
 use hosting::Indexed;
+use hosting::Short;
 use hosting::Stop;
 use hosting::Tally;
 use hosting::Walked;
@@ -117,7 +118,7 @@ pub fn is_full(stop: Stop) -> bool
     ensures { λ r. ⌜ r ≡ fullOf stop ⌝ }
 {
     match stop {
-        Stop::Unknown(_, why) => why.reason == 0,
+        Stop::Unknown(_, why) => why.reason == Short::FULL,
         Stop::ReturnedNothing => false,
         Stop::Returned(_) => false,
         Stop::Steps => false,

@@ -1,18 +1,19 @@
 -- What the parts put together come to: a workspace that is ready. Assumes nothing.
 use mathlib.Core.Path.{_≡_, sym, ap, subst, _∙_}
 use mathlib.Core.List.{List, [], _++_}
-use Prim.Native.Nat.{ℕ, _≤_, _<_}
-use lib.ListN.{length, getD, replicate, length-replicate}
+use Prim.Native.Nat.{ℕ, _+_, _≤_, _<_}
+use native.Mathlib.Omega.{arith}
+use lib.ListN.{length, getD, replicate}
+use borrow.Rule.Slice.PartMut.{putMid, midOf}
 use Rattle.spelling.specs.Spelling.{typeOf}
 use Rattle.files.specs.FileTable.{body}
 use Rattle.files.specs.Refusal.{routineRefusal}
 use Rattle.files.specs.Program.{Variable, programOf}
 use Rattle.files.specs.Call.{limitsOf}
 use Rattle.definition.specs.Walk.{declaredIn, unsetAdded}
-use Rattle.workspace.specs.Parts.{workspaceSize, tables, symbolsPart}
+use Rattle.workspace.specs.Parts.{workspaceSize, framePlace, frameSize, noteSize, registersSize, declaredSize, tables, symbolsPart}
 use Rattle.workspace.specs.Types.{typeAt, pointeeAt, declaredAt}
 use Rattle.workspace.specs.View.{view}
-use Rattle.workspace.proofs.ClearLaws.{cleared}
 use Rattle.index.specs.Symbols.{SymbolsIndexed}
 use Rattle.index.specs.Regions.{RegionsIndexed}
 use Rattle.hosting.specs.declared.Facts.{Facts}
@@ -20,26 +21,33 @@ use Rattle.hosting.specs.Scene.{pointee}
 use Rattle.hosting.specs.Setting.{Tabled, Started, Finished, ConstantTabled, withVariables}
 use Rattle.setup.specs.Heads.{variableCount, parameterCount, variables, Typed, AllCoded, starting}
 use Rattle.setup.specs.Post.{Knows, Spells, TypesSet, DeclaresSome, Indexes, IndexesBlocks, Empties, argumentsIn, StartsSome, EndsSome}
+use Rattle.setup.proofs.EmptyLaws.{cleared-fresh, cleared-names, cleared-size}
 use Rattle.setup.proofs.TypeLaws.{coded-type, narrow}
 use Rattle.setup.proofs.HeadLaws.{all-variables}
 use Rattle.setup.proofs.Rooting.{rooted, told, meant, constant-meant, symbols-read}
 
 -- ---- the types
 
-pub types-set : (r w₀ : List ℕ) {b w₁ w₂ : List ℕ} → workspaceSize ≤ length w₀ → w₁ ≡ replicate (length w₀) 0 → b ≡ body r 1 → Spells b 512 w₁ w₂ → TypesSet r w₂
-unfolding programOf
-types-set r w₀ {b} {w₁} {w₂} room z e s =
-    let c = cleared w₀ w₁ room z in
-    record {
-      holds = s .kept .holds 0 ∙ c .holds;
-      fit = s .kept .fit 0 (c .fit);
-      declared = λ x. s .declared x ∙ c .declared x;
-      types = rw e at (s .types);
-      pointees = rw e at (s .pointees);
-    }
+-- what is cleared before: the variables, the note, the registers and the names' codes
+abbrev front : ℕ
+front = frameSize + noteSize + registersSize + declaredSize
 
-pub types-size : (w₀ : List ℕ) {b w₁ w₂ : List ℕ} → w₁ ≡ replicate (length w₀) 0 → Spells b 512 w₁ w₂ → length w₂ ≡ length w₀
-types-size w₀ z s = s .kept .size ∙ ap length z ∙ length-replicate (length w₀) 0
+module _ (r w₀ z : List ℕ) {b w₂ : List ℕ} (room : workspaceSize ≤ length w₀) (e : z ≡ replicate (length (midOf framePlace front w₀)) 0) (i : b ≡ body r 1)
+    (s : Spells b 512 (putMid framePlace front w₀ z) w₂) where
+  pub types-set : TypesSet r w₂
+  unfolding programOf
+  types-set =
+      let f = cleared-fresh front w₀ z (omega arith) (omega arith) room e in
+      record {
+        holds = s .kept .holds 0 ∙ f .0;
+        fit = s .kept .fit 0 (f .1);
+        declared = λ x. s .declared x ∙ cleared-names front w₀ z (omega arith) (omega arith) room e (omega arith) x;
+        types = rw i at (s .types);
+        pointees = rw i at (s .pointees);
+      }
+
+  pub types-size : length w₂ ≡ length w₀
+  types-size = s .kept .size ∙ cleared-size front w₀ z (omega arith) (omega arith) room e
 
 pub types-coded : {r w : List ℕ} → TypesSet r w → AllCoded (tables w)
 types-coded {r} t = record { coded = λ i l. coded-type (getD (programOf r .types) i []) (t .types i l) }

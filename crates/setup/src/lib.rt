@@ -20,12 +20,12 @@ pub mod indexes;
 pub mod texts;
 pub mod variables;
 
-// Zero throughout, and then the types of the routine.
+// Nothing set, no note and no name declared, and then the types of the routine. What else the workspace holds is written before it is read.
 fn set_types(routine: &[u8], ws: &mut [u8])
     requires { ⌜ (routineRefusal (now routine) ≡ 0) × (workspaceSize ≤ length (now ws)) ⌝ }
     ensures { λ _. ⌜ (TypesSet (now (routine .entry)) (now (ws .exit))) × (length (now (ws .exit)) ≡ length (now (ws .entry))) ⌝ }
 {
-    layout::clear(ws);
+    layout::clear(&mut ws[workspace::FRAME..workspace::TYPES]);
     texts::put_types(body(routine, 1), ws);
 }
 

@@ -73,10 +73,10 @@ fn sort_of(nodes: &[u8], facts: Facts, n: usize) -> Sort
     ensures { λ r. ⌜ Sorted (now (nodes .entry)) facts n r ⌝ }
 {
     let kind = files::nodes::kind(nodes, n);
-    if kind == 16 {
+    if kind == files::nodes::RETURN {
         return Sort::Gives;
     }
-    if kind != 15 {
+    if kind != files::nodes::INTRINSIC {
         return Sort::Plain;
     }
     let name = files::nodes::reference(nodes, n);
@@ -89,7 +89,7 @@ fn sort_of(nodes: &[u8], facts: Facts, n: usize) -> Sort
     if files::nodes::span(nodes, n) != 2 {
         return Sort::Plain;
     }
-    if files::nodes::kind(nodes, n + 1) != 0 {
+    if files::nodes::kind(nodes, n + 1) != files::nodes::CONSTANT {
         return Sort::Plain;
     }
     Sort::Halts
@@ -249,7 +249,7 @@ fn is_full(o: Acts) -> bool
         Acts::Gives(_) => false,
         Acts::Strays => false,
         Acts::Halts(_) => false,
-        Acts::Fails(s) => s.reason == 0,
+        Acts::Fails(s) => s.reason == Short::FULL,
     }
 }
 

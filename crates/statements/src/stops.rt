@@ -45,18 +45,22 @@ fn located(kind: u64, at: Maybe, number: u64) -> StopPiece
     }
 }
 
-// The last reason is 9.
+// Numbers past the last reason's stand for it too.
 fn reason_of(reason: u64) -> u64
     ensures { λ r. ⌜ r ≡ reasonOf reason ⌝ }
 {
-    if 9 < reason { 9 } else { reason }
+    if Short::BY_ZERO < reason {
+        Short::BY_ZERO
+    } else {
+        reason
+    }
 }
 
 // Which of the three fields holds what a reason names.
 fn number_in(reason: u64, number: u64) -> u64
     ensures { λ r. ⌜ r ≡ numberIn reason number ⌝ }
 {
-    if (reason == 3) | (reason == 6) {
+    if (reason == Short::NO_CASE) | (reason == Short::UNKNOWN_VALUE) {
         number
     } else {
         0
@@ -66,7 +70,12 @@ fn number_in(reason: u64, number: u64) -> u64
 fn node_in(reason: u64, number: u64) -> u64
     ensures { λ r. ⌜ r ≡ nodeIn reason number ⌝ }
 {
-    if (reason == 1) | (reason == 2) | (reason == 4) | (reason == 5) | (reason == 8) {
+    if (reason == Short::BRANCH_UNKNOWN)
+        | (reason == Short::SWITCH_UNKNOWN)
+        | (reason == Short::STRUCT_TO)
+        | (reason == Short::UNKNOWN_ADDRESS)
+        | (reason == Short::STORE_TO)
+    {
         number
     } else {
         0
@@ -76,7 +85,7 @@ fn node_in(reason: u64, number: u64) -> u64
 fn name_in(reason: u64, number: u64) -> u64
     ensures { λ r. ⌜ r ≡ nameIn reason number ⌝ }
 {
-    if reason == 7 { number } else { 0 }
+    if reason == Short::NO_WIDTH { number } else { 0 }
 }
 
 // Why an evaluation ended short, at an address.

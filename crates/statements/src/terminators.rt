@@ -52,7 +52,7 @@ fn branch_to(root: usize, taken: usize, next: usize, v: Val) -> Lead
 {
     if !v.known {
         return Lead::Fails(Short {
-            reason: 1,
+            reason: Short::BRANCH_UNKNOWN,
             number: root as u64,
         });
     }
@@ -70,7 +70,7 @@ fn switch_to(blocks: &[u8], start: usize, count: usize, root: usize, v: Val) -> 
 {
     if !v.known {
         return Lead::Fails(Short {
-            reason: 2,
+            reason: Short::SWITCH_UNKNOWN,
             number: root as u64,
         });
     }
@@ -79,7 +79,7 @@ fn switch_to(blocks: &[u8], start: usize, count: usize, root: usize, v: Val) -> 
     match c {
         Maybe::Known(b) => Lead::To(b as usize),
         Maybe::Nothing => Lead::Fails(Short {
-            reason: 3,
+            reason: Short::NO_CASE,
             number: n,
         }),
     }

@@ -1,21 +1,20 @@
--- A workspace that is zero throughout: nothing is set, stored, noted or declared. Assumes nothing.
-use mathlib.Core.Path.{_≡_, refl, sym, ap, _∙_, subst}
+-- Parts of a workspace that are zero throughout: nothing is set, stored, noted or declared. Assumes nothing.
+use mathlib.Core.Path.{_≡_, refl}
 use mathlib.Core.List.{List, [], _∷_}
 use mathlib.Core.Option.{none}
 use Prim.Native.Nat.{ℕ, zero, suc, _*_, _≤_}
 use native.Mathlib.Omega.{arith}
-use lib.ListN.{length, drop, replicate, length-replicate}
+use lib.ListN.{length, drop, replicate}
 use lib.Seq.{length-take-le}
 use Rattle.layout.specs.Each.{Each}
 use Rattle.layout.specs.Number.{num, numberAt}
 use Rattle.layout.proofs.StoreLaws.{all-take, all-drop}
 use Rattle.memory.specs.Entries.{Sorted, entries, rowOf, first}
-use Rattle.workspace.specs.Parts.{part, workspaceSize, memorySize, framePlace, frameSize, notePlace, noteSize, tablesPlace, declaredSize, memoryPart, framePart, notePart, tables, declaredPart}
+use Rattle.workspace.specs.Parts.{part, workspaceSize, memorySize, memoryPart, framePart, notePart, declaredPart}
 use Rattle.workspace.specs.Variables.{slotSize, nameLimit, slotAt, variablesIn}
 use Rattle.workspace.specs.Note.{pendingIn}
 use Rattle.workspace.specs.Types.{declaredAt}
-use Rattle.workspace.specs.View.{view}
-use Rattle.workspace.specs.Post.{Cleared}
+use Rattle.workspace.specs.View.{view, fresh, Fit}
 use Rattle.workspace.proofs.VariableLaws.{those-none}
 use Rattle.workspace.proofs.CodeLaws.{no-code}
 
@@ -38,39 +37,31 @@ slot-none : (f : List ℕ) (x : ℕ) → Zeros f → slotAt f x ≡ none
 unfolding slotAt
 slot-none f x z = rw (zeros-number f (x * slotSize) 1 z, slotAt)
 
-pub variables-none : (f : List ℕ) → Zeros f → variablesIn f ≡ []
+variables-none : (f : List ℕ) → Zeros f → variablesIn f ≡ []
 unfolding variablesIn
 variables-none f z = those-none (slotAt f) 0 nameLimit (λ x. slot-none f x z)
 
-pub pending-none : (p : List ℕ) → Zeros p → pendingIn p ≡ none
+pending-none : (p : List ℕ) → Zeros p → pendingIn p ≡ none
 unfolding pendingIn
 pending-none p z = rw (zeros-number p 0 1 z, pendingIn)
 
-declared-none : (t : List ℕ) (x : ℕ) → Zeros t → declaredAt t x ≡ none
-unfolding declaredAt declaredPart
-declared-none t x z = no-code (numberAt (declaredPart t) x 1) (zeros-number (declaredPart t) x 1 (all-take (λ b. b ≡ 0) declaredSize t z))
+pub declared-none : (t : List ℕ) (x : ℕ) → Zeros (declaredPart t) → declaredAt t x ≡ none
+unfolding declaredAt
+declared-none t x z = no-code (numberAt (declaredPart t) x 1) (zeros-number (declaredPart t) x 1 z)
 
-pub entries-none : (s : List ℕ) → entries s 0 ≡ []
+entries-none : (s : List ℕ) → entries s 0 ≡ []
 unfolding entries rowOf
 entries-none s = refl
 
-pub sorted-none : (s : List ℕ) → memorySize ≤ length s → Sorted s 0
+sorted-none : (s : List ℕ) → memorySize ≤ length s → Sorted s 0
 unfolding first
 sorted-none s h = record { room = h; placed = omega arith; ascending = rw (entries-none s) tt }
 
-zeros-cleared : (w : List ℕ) → workspaceSize ≤ length w → Zeros w → Cleared w
-unfolding view memoryPart framePart notePart tables
-zeros-cleared w room z =
-    let f : variablesIn (framePart w) ≡ [] = variables-none (framePart w) (all-take (λ b. b ≡ 0) frameSize (drop framePlace w) (all-drop (λ b. b ≡ 0) framePlace w z)) in
-    let p : pendingIn (notePart w) ≡ none = pending-none (notePart w) (all-take (λ b. b ≡ 0) noteSize (drop notePlace w) (all-drop (λ b. b ≡ 0) notePlace w z)) in
+-- whatever stands where memory is
+pub fresh-parts : (w : List ℕ) → workspaceSize ≤ length w → Zeros (framePart w) → Zeros (notePart w) → (view w 0 ≡ fresh) × Fit w 0
+unfolding view memoryPart
+fresh-parts w room frame note =
+    let f : variablesIn (framePart w) ≡ [] = variables-none (framePart w) frame in
+    let p : pendingIn (notePart w) ≡ none = pending-none (notePart w) note in
     let l : length (memoryPart w) ≡ memorySize = length-take-le memorySize w (omega arith) in
-    record {
-      holds = rw (f, p, entries-none (memoryPart w));
-      fit = record { room = room; sorted = sorted-none (memoryPart w) (omega (arith, l)); few = rw p (omega arith) };
-      declared = λ x. declared-none (tables w) x (all-drop (λ b. b ≡ 0) tablesPlace w z);
-    }
-
-pub cleared : (w w′ : List ℕ) → workspaceSize ≤ length w → w′ ≡ replicate (length w) 0 → Cleared w′
-cleared w w′ room e =
-    let l : length w′ ≡ length w = ap length e ∙ length-replicate (length w) 0 in
-    zeros-cleared w′ (omega arith) (subst Zeros (sym e) (zeros-replicate (length w)))
+    (rw (f, p, entries-none (memoryPart w)), record { room = room; sorted = sorted-none (memoryPart w) (omega (arith, l)); few = rw p (omega arith) })

@@ -22,7 +22,7 @@ use Rattle.definition.specs.Record.{variablesBody}
 use Rattle.workspace.specs.Variables.{variableSize}
 use Rattle.workspace.specs.Types.{declaredAt, typeAt, pointeeAt}
 use Rattle.workspace.specs.Registers.{wordCount, wordAt, valueAt}
-use Rattle.workspace.specs.View.{view, fresh, Fit, Does, storing}
+use Rattle.workspace.specs.View.{view, Fit, Does, storing}
 
 abbrev pub slotAs : Option Val → Slot
 slotAs none = Unset
@@ -96,12 +96,6 @@ pub record Fills (w x y z w′ : List ℕ) : Type 0 where
   pub symbols : symbolsPart (tables w′) ≡ x
   pub regions : regionsPart (tables w′) ≡ y
   pub blocks : blocksPart (tables w′) ≡ z
-
--- what a workspace that is zero throughout holds
-pub record Cleared (w : List ℕ) : Type 0 where
-  pub holds : view w 0 ≡ fresh
-  pub fit : Fit w 0
-  pub declared : (x : ℕ) → declaredAt (tables w) x ≡ none
 
 -- ---- the registers
 

@@ -10,27 +10,27 @@ execute-spec =
     tie.close
     (tie.spec
     (λ c κs. search needs)  -- enter-requires
-    (λ c κs. search (needs, enters-ready))  -- evaluate-requires
     (λ c κs. search (needs, room))  -- kind-requires
+    (λ c κs. (search (needs, enters-ready), (search needs, search (needs, same-kind))))  -- execute-assign-requires
     (λ c κs. search (needs, room-after, enters-ready))  -- executed-requires
-    (λ c κs. search (needs, room-after, enters-ready))  -- noted-requires
     (λ c. search needs)  -- same-length
     (λ c. search needs)  -- same-length-2
     (λ c.  -- returns
-    let i = c .before .before in
-    let k = i .before in
-    let e = k .before .before .before .before .before in
-    let e′ = e .before .before .before .before .before in
+    let e = c .before .before .before .before .before .before in
+    let k = e .before .before .before .before in
+    let e′ = k .before .before .before in
     let s = e′ .before .before .before .before .before .before in
     let s′ = s .before in
-    enters-executes (e′ .enter .ensures) (s′ .pre .0) (e .evaluate .ensures .1 (same-kind (k .kind .ensures) (i .if1 .taken))) (c .executed .ensures))
+    enters-executes (e′ .enter .ensures) (s′ .pre .0) (e .execute-assign .ensures) (c .executed .ensures))
+    (λ c κs. search (needs, enters-ready))  -- evaluate-requires
+    (λ c κs. search (needs, room-after, enters-ready))  -- noted-requires
     (λ c. search needs)  -- same-length-3
     (λ c. search needs)  -- same-length-4
     (λ c.  -- returns-2
-    let i = c .before .before in
+    let e = c .before .before .before .before .before .before in
+    let i = e .before .before .before in
     let k = i .before in
-    let e = k .before .before .before .before .before in
-    let e′ = e .before .before .before .before .before in
+    let e′ = k .before .before .before in
     let s = e′ .before .before .before .before .before .before in
     let s′ = s .before in
     enters-other (e′ .enter .ensures) (s′ .pre .0) (k .kind .ensures) (i .if1 .left) (e .evaluate .ensures .0) (c .noted .ensures)))

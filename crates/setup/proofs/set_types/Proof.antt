@@ -6,6 +6,15 @@ use borrow.Author.Needs.{needs}
 use Rattle.setup.proofs.set_types.Statement.{statement}
 use Rattle.setup.proofs.set_types.Tie as tie
 
+sub-clear : tie.Need-sub-clear
+sub-clear c = search needs
+
+part-clear-start : tie.Need-part-clear-start
+part-clear-start c = search needs
+
+part-clear-end : tie.Need-part-clear-end
+part-clear-end c = search needs
+
 clear-requires : tie.Need-clear-requires
 clear-requires c κs = search needs
 
@@ -23,4 +32,4 @@ returns c = search (needs, types-set, types-size)
 
 pub set-types-spec : {M : Type 1} → statement M
 set-types-spec =
-    tie.close (tie.spec clear-requires body-requires put-types-requires same-length returns)
+    tie.close (tie.spec sub-clear part-clear-start part-clear-end clear-requires body-requires put-types-requires same-length returns)

@@ -1,29 +1,24 @@
 use mathlib.Core.Path.{_≡_, refl}
+use mathlib.Core.Bool.{_&&_}
 use Prim.Native.Nat.{_≤_, _-_}
 use lib.ListN.{length, drop}
 use borrow.Author.Needs.{needs}
 use Rattle.files.specs.Names.{printable}
-use Rattle.files.proofs.NameLaws.{printable-end, printable-low, printable-high, printable-on}
+use Rattle.files.proofs.NameLaws.{printable-end, printable-on}
 use Rattle.files.proofs.names.printed.Statement.{statement}
 use Rattle.files.proofs.names.printed.Tie as tie
 
 abbrev Inv-loop : tie.InvT-loop
-Inv-loop s lo hi i₀ i = (printable lo hi s ≡ printable lo hi (drop i s)) × (i ≤ length s)
+Inv-loop s lo hi ok₀ i₀ ok i = (printable lo hi s ≡ (ok && printable lo hi (drop i s))) × (i ≤ length s)
 
 abbrev μ-loop : tie.MeasureT-loop
-μ-loop s lo hi i₀ i = length s - i
+μ-loop s lo hi ok₀ i₀ ok i = length s - i
 
 loop-holds : tie.Need-loop-holds Inv-loop μ-loop
 loop-holds c = (refl, search needs)
 
 shared-slice-read-x : tie.Need-shared-slice-read-x Inv-loop μ-loop
 shared-slice-read-x c = search needs
-
-returns : tie.Need-returns Inv-loop μ-loop
-returns c = search (needs, printable-low)
-
-returns-2 : tie.Need-returns-2 Inv-loop μ-loop
-returns-2 c = search (needs, printable-high)
 
 add-i : tie.Need-add-i Inv-loop μ-loop
 add-i c = search needs
@@ -34,20 +29,8 @@ loop-less c = search needs
 loop-again : tie.Need-loop-again Inv-loop μ-loop
 loop-again c = search (needs, printable-on)
 
-returns-3 : tie.Need-returns-3 Inv-loop μ-loop
-returns-3 c = search (needs, printable-end)
+returns : tie.Need-returns Inv-loop μ-loop
+returns c = search (needs, printable-end)
 
 pub printed-spec : {M : Type 1} → statement M
-printed-spec =
-    tie.close
-    (tie.spec
-    Inv-loop
-    μ-loop
-    loop-holds
-    shared-slice-read-x
-    returns
-    returns-2
-    add-i
-    loop-less
-    loop-again
-    returns-3)
+printed-spec = tie.close (tie.spec Inv-loop μ-loop loop-holds shared-slice-read-x add-i loop-less loop-again returns)

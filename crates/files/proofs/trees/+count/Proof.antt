@@ -1,13 +1,14 @@
 -- `count` meets its contract: at each turn of the loop the whole answer is that of the trees from there on. A call is on a smaller span.
 -- Assumes nothing.
-use mathlib.Core.Path.{_≡_, refl}
+use mathlib.Core.Path.{_≡_, refl, _∙_}
+use mathlib.Core.Logic.{⊎-elim}
 use Prim.Native.Nat.{ℕ, _<_, _≤_, _-_}
 use native.Mathlib.Omega.{arith}
 use borrow.Author.Needs.{needs}
 use borrow.Fn.Kinds.{In}
 use borrow.Fn.PlainCycle.{Measures, is, falls, and}
 use Rattle.files.specs.Nodes.{trees}
-use Rattle.files.proofs.TreeLaws.{trees-end, trees-deep, trees-empty, trees-long, trees-odd, trees-uncounted, trees-on}
+use Rattle.files.proofs.TreeLaws.{trees-end, trees-deep, trees-empty, trees-long, trees-odd, trees-uncounted, trees-on, no-kids}
 use Rattle.files.proofs.trees.count.Reads as count
 use Rattle.files.proofs.trees.count.Kinds as count-kinds
 use Rattle.files.proofs.trees.+count.Lts-count as count-lts
@@ -63,10 +64,16 @@ pub +count-spec : {M : Type 1} → statement M
     (λ c. search needs)
     (λ c κs. search needs)  -- count
     (λ c κs. search needs)  -- is_counted
-    (λ c. search (needs, trees-uncounted))
+    (λ c.
+    let j = c .before .before in
+    let kids = ⊎-elim (λ a. a .2 ∙ a .1 .ensures) (λ a. no-kids _ _ _ _ _ _ (a .0 .left) (a .1)) (j .if5 .came) in
+    search (needs, trees-uncounted, kids))
     (λ c. search needs)
     (λ c. search needs)
     (λ c. search needs)  -- loop-less
-    (λ c. (search (needs, trees-on), omega arith))  -- loop-again
+    (λ c.  -- loop-again
+    let j = c .before .before in
+    let kids = ⊎-elim (λ a. a .2 ∙ a .1 .ensures) (λ a. no-kids _ _ _ _ _ _ (a .0 .left) (a .1)) (j .if5 .came) in
+    (search (needs, trees-on, kids), omega arith))
     (λ c. search needs)
     (λ c. search (needs, trees-end))

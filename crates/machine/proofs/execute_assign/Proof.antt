@@ -1,0 +1,70 @@
+-- `execute_assign` meets its contract. Assumes nothing.
+use native.Mathlib.Omega.{arith}
+use borrow.Author.Needs.{needs}
+use Rattle.hosting.proofs.Shapes.{room, same-kind, assign-left, assign-right}
+use Rattle.machine.proofs.Evaluating.{ready-on}
+use Rattle.machine.proofs.Assigning.{val-executes, val-fails, write-assigns}
+use Rattle.machine.proofs.execute_assign.Statement.{statement}
+use Rattle.machine.proofs.execute_assign.Tie as tie
+
+pub execute-assign-spec : {M : Type 1} → statement M
+execute-assign-spec =
+    tie.close
+    (tie.spec
+    (λ c. search (needs, room))  -- add-left
+    (λ c κs. search (needs, room, assign-left))  -- next-requires
+    (λ c κs. search (needs, room, assign-left))  -- kind-requires
+    (λ c κs. search needs)  -- evaluate-requires
+    (λ c. search needs)  -- same-length
+    (λ c. search needs)  -- same-length-2
+    (λ c.  -- returns
+    let e = c .before .before .before .before in
+    let k = e .before .before .before .before in
+    let s = k .before .before .before .before .before .before in
+    e .evaluate .ensures .1 (s .before .pre .1 .1))
+    (λ c κs. search (needs, room, assign-right))  -- kind-requires-2
+    (λ c κs. search needs)  -- evaluate-requires-2
+    (λ c. search needs)  -- same-length-3
+    (λ c. search needs)  -- same-length-4
+    (λ c.  -- returns-2
+    let e = c .before .before .before .before in
+    let k = e .before .before .before .before .before .before in
+    let s = k .before .before .before .before .before .before in
+    e .evaluate2 .ensures .1 (s .before .pre .1 .1))
+    (λ c κs. search (needs, assign-right))  -- evaluate-requires-3
+    (λ c. search needs)  -- same-length-5
+    (λ c. search needs)  -- same-length-6
+    (λ c.  -- returns-3
+    let e = c .before .before .before .before .before in
+    let i = e .before .before .before in
+    let k = i .before in
+    let n = k .before .before .before in
+    let s = n .before .before .before .before .before .before in
+    val-fails (s .pre .1 .1) (n .next .ensures) (k .kind2 .ensures) (i .if2 .left) (e .evaluate3 .ensures .0) (c .if3 .taken))
+    (λ c κs.  -- value-requires
+    let i3 = c .before in
+    let e = i3 .before .before .before .before .before in
+    let k = e .before .before .before .before in
+    let n = k .before .before .before in
+    let s = n .before .before .before .before .before .before in
+    (ready-on (e .evaluate3 .ensures .0) (s .pre .0) (i3 .if3 .left) (assign-right (s .pre .1 .1) (s .pre .1 .0) (n .next .ensures)) .ready .fit .room, omega arith))
+    (λ c κs.  -- write-requires
+    let i3 = c .before .before .before .before in
+    let e = i3 .before .before .before .before .before in
+    let i = e .before .before .before .before .before in
+    let n = i .before .before in
+    let s = n .before .before .before .before .before .before in
+    let r = ready-on (e .evaluate3 .ensures .0) (s .pre .0) (i3 .if3 .left) (assign-right (s .pre .1 .1) (s .pre .1 .0) (n .next .ensures)) in
+    (r .ready .fit, (r .ready .symbols, (assign-left (s .pre .1 .1) (s .pre .1 .0), same-kind (i .before .kind .ensures) (i .if1 .left)))))
+    (λ c. search needs)  -- same-length-7
+    (λ c. search needs)  -- same-length-8
+    (λ c.  -- returns-4
+    let w = c .before .before .before .before in
+    let v = w .before .before .before in
+    let i3 = v .before .before in
+    let e = i3 .before .before .before .before .before in
+    let i = e .before .before .before in
+    let k = i .before in
+    let n = k .before .before .before in
+    let s = n .before .before .before .before .before .before in
+    val-executes (s .pre .1 .1) (n .next .ensures) (k .kind2 .ensures) (i .if2 .left) (e .evaluate3 .ensures .0) (i3 .if3 .left) (write-assigns (v .value .ensures) (w .write .ensures))))
