@@ -2,21 +2,21 @@
  *
  * It reads the three files as they lie and writes the whole record, in one pass. It takes the files
  * for well formed and checks nothing in them: no table, no name, no node, no root. It looks only
- * whether the record and the written addresses have room. It presumes a little-endian machine. */
+ * whether the record and the written addresses have room; where the record has none the run goes
+ * on, since too many addresses come first. It presumes a little-endian machine. */
 #include <setjmp.h>
 #include <stdbool.h>
 #include <stdint.h>
 #include <stdlib.h>
 #include <string.h>
 
+#include "files.h"
 #include "walker.h"
-
-#define PACKED __attribute__((packed))
 
 enum {
     NAMES = 512, BLOCKS = 2731, REGIONS = 5042, ARGUMENTS = 16,
-    PAGES = 4096, SLOTS = 16384, PAGE = 64,
-    PAIRS = 48, STOP = 39, COUNTS = 12, STEPS = PAIRS + STOP + COUNTS,
+    ADDRESSES = 4096, PAGES = ADDRESSES, SLOTS = 16384, PAGE = 64,
+    PAIRS = 48, STOP = 39, COUNTS = 12, STEPS = PAIRS + STOP + COUNTS, ASIDE = 256,
 };
 
 /* ---- Values */
@@ -74,70 +74,6 @@ static inline uint64_t widened(struct val v, uint32_t bits)
 static inline struct val cast(struct val v, ctype type)
 {
     return (struct val){ widened(v, (uint32_t)type), type | (v.type & KNOWN) };
-}
-
-/* ---- The files as they lie */
-
-struct PACKED node {
-    uint8_t kind, flag;
-    uint16_t ref;
-    uint32_t width, span;
-    uint64_t value;
-};
-
-struct PACKED statement {
-    uint8_t flag;
-    uint64_t address;
-    uint32_t root;
-};
-
-struct PACKED block {
-    uint16_t statements;
-    uint8_t terminator, flag;
-    uint64_t address;
-    uint32_t root, taken, next;
-};
-
-struct PACKED choice {
-    int64_t value;
-    uint32_t target;
-};
-
-struct PACKED symbol {
-    uint16_t name;
-    uint8_t size;
-    uint64_t address;
-};
-
-enum kind {
-    CONSTANT, VAR, REGISTER, STRING_LITERAL, FUNCTION_NAME, CONDITION_TRUE, CONDITION_FALSE,
-    CONSTANT_CONDITION, CAST, DEREF, ADDRESS_OF, TERNARY, BINARY, ASSIGN, CALL, INTRINSIC, RETURN,
-    STRUCT_INIT, FIELD, PLAIN
-};
-
-enum operator_number {
-    ADD, SUB, MUL, DIV, MOD, AND, OR, XOR, SHL, SHR, EQUAL, NOT_EQUAL, LESS, LESS_EQUAL, GREATER,
-    GREATER_EQUAL, LOGICAL_AND, LOGICAL_OR
-};
-
-enum terminator { ENDS, GOTO, BRANCH, SWITCH };
-
-struct bytes {
-    const uint8_t *first;
-    size_t length;
-};
-
-static inline uint64_t number_at(const uint8_t *at, size_t width)
-{
-    uint64_t number = 0;
-    memcpy(&number, at, width);
-    return number;
-}
-
-static struct bytes body(const uint8_t *file, size_t which)
-{
-    const uint8_t *pair = file + 2 + 4 * which;
-    return (struct bytes){ file + number_at(pair, 2), number_at(pair + 2, 2) };
 }
 
 /* ---- The record's parts as they are written */
@@ -224,7 +160,7 @@ struct machine {
     /* what is written to memory */
     struct page pages[PAGES];
     uint16_t slots[SLOTS];
-    size_t page_count;
+    size_t page_count, written; /* addresses */
     /* the note that an evaluation leaves for its statement */
     uint8_t pending;
     uint16_t taken_count, taken[ARGUMENTS];
@@ -234,8 +170,10 @@ struct machine {
     uint8_t *questions;
     size_t asked, room;
     uint32_t entered, recorded;
-    struct step *step; /* in the record, while a statement is run */
+    struct step *step; /* in the record or aside, while a statement is run */
     struct stop stop;
+    /* a step and a question that the record may have no room for */
+    uint8_t aside_step[ASIDE], aside_question[ASIDE];
     jmp_buf ended;
 };
 
@@ -246,7 +184,7 @@ _Noreturn static void end(struct machine *m, int how)
     longjmp(m->ended, how);
 }
 
-enum { STOPPED = 1, NO_ROOM = 2 };
+enum { STOPPED = 1, MANY_ADDRESSES = 2 };
 
 _Noreturn static void fail(struct machine *m, uint8_t reason, uint64_t number, uint32_t node)
 {
@@ -259,17 +197,25 @@ _Noreturn static void fail(struct machine *m, uint8_t reason, uint64_t number, u
 
 /* ---- Questions */
 
-static uint8_t *ask(struct machine *m, size_t length)
+/* More room for questions, as long as the record may hold them. */
+static uint8_t *more_room(struct machine *m, size_t length)
+{
+    if (m->asked + length > m->capacity)
+        return m->aside_question;
+    m->room = 2 * m->room + 65536;
+    m->questions = realloc(m->questions, m->room);
+    if (m->questions == NULL)
+        abort();
+    return m->questions + m->asked;
+}
+
+static inline uint8_t *ask(struct machine *m, size_t length)
 {
     uint8_t *at;
-    if (m->room - m->asked < length) {
-        uint8_t *more = realloc(m->questions, 2 * m->room + 65536);
-        if (more == NULL)
-            end(m, NO_ROOM);
-        m->questions = more;
-        m->room = 2 * m->room + 65536;
-    }
-    at = m->questions + m->asked;
+    if (m->asked + length > m->room)
+        at = more_room(m, length);
+    else
+        at = m->questions + m->asked;
     m->asked += length;
     return at;
 }
@@ -362,7 +308,7 @@ static struct page *make_page(struct machine *m, uint64_t number)
     if (page != NULL)
         return page;
     if (m->page_count == PAGES)
-        end(m, NO_ROOM);
+        end(m, MANY_ADDRESSES);
     while (m->slots[slot] != 0)
         slot = (slot + 1) % SLOTS;
     page = &m->pages[m->page_count++];
@@ -370,6 +316,18 @@ static struct page *make_page(struct machine *m, uint64_t number)
     page->number = number;
     page->present = 0;
     return page;
+}
+
+/* So many addresses of a page, from an offset on, are written. */
+static inline void mark(struct machine *m, struct page *page, size_t offset, size_t count)
+{
+    uint64_t bits = mask((uint32_t)count) << offset, fresh = bits & ~page->present;
+    if (fresh == 0)
+        return;
+    page->present |= bits;
+    m->written += fresh == bits ? count : (size_t)__builtin_popcountll(fresh);
+    if (m->written > ADDRESSES)
+        end(m, MANY_ADDRESSES);
 }
 
 static void store(struct machine *m, uint64_t address, struct val v)
@@ -384,7 +342,7 @@ static void store(struct machine *m, uint64_t address, struct val v)
         if (here > length - done)
             here = length - done;
         memcpy(page->bytes + offset, (uint8_t *)&v.number + done, here);
-        page->present |= mask((uint32_t)here) << offset;
+        mark(m, page, offset, here);
         done += here;
     }
 }
@@ -432,6 +390,11 @@ static struct val load(struct machine *m, uint64_t address, ctype type)
 }
 
 /* ---- Operators */
+
+enum operator_number {
+    ADD, SUB, MUL, DIV, MOD, AND, OR, XOR, SHL, SHR, EQUAL, NOT_EQUAL, LESS, LESS_EQUAL, GREATER,
+    GREATER_EQUAL, LOGICAL_AND, LOGICAL_OR
+};
 
 static struct val shifted(uint8_t op, struct val l, struct val r)
 {
@@ -739,20 +702,35 @@ static void execute(struct machine *m, uint32_t n)
         m->step->note = 3;
 }
 
-/* The step is in its place; what is left is the note that an evaluation left. */
+/* The note that an evaluation left for a step; gives how long the names are that it takes. */
+static size_t put_note(struct machine *m, struct step *step)
+{
+    step->note = m->pending;
+    if (m->pending != 5)
+        return 0;
+    step->taken = m->taken_count;
+    memcpy(step + 1, m->taken, 2u * m->taken_count);
+    return 2u * m->taken_count;
+}
+
+/* A step that was made aside goes into the record if there is room for it. */
+static void keep_step(struct machine *m, size_t length)
+{
+    if (m->at + length <= m->capacity)
+        memcpy(m->record + m->at, m->aside_step, length);
+}
+
+/* The step is in its place; what is left is the note. */
 static void end_step(struct machine *m)
 {
     struct step *step = m->step;
-    m->at += sizeof *step;
+    size_t length = sizeof *step;
     m->step = NULL;
-    if (m->pending == 0 || step->note != 0)
-        return;
-    step->note = m->pending;
-    if (m->pending == 5) {
-        step->taken = m->taken_count;
-        memcpy(m->record + m->at, m->taken, 2u * m->taken_count);
-        m->at += 2u * m->taken_count;
-    }
+    if (m->pending != 0 && step->note == 0)
+        length += put_note(m, step);
+    if ((uint8_t *)step == m->aside_step)
+        keep_step(m, length);
+    m->at += length;
 }
 
 _Noreturn static void stop(struct machine *m, uint8_t kind, uint64_t number)
@@ -795,9 +773,9 @@ static void run_statement(struct machine *m, uint32_t block, uint32_t number)
 {
     const struct statement *statement = &m->statements[number];
     uint32_t root = statement->root;
-    struct step *step = (struct step *)(m->record + m->at);
-    if (m->capacity - m->at < sizeof *step + sizeof m->taken)
-        end(m, NO_ROOM);
+    struct step *step = (struct step *)m->aside_step;
+    if (m->at + sizeof *step + sizeof m->taken <= m->capacity)
+        step = (struct step *)(m->record + m->at);
     memset(step, 0, sizeof *step);
     step->flag = statement->flag;
     step->address = statement->address;
@@ -889,6 +867,12 @@ _Noreturn static void walk(struct machine *m)
 }
 
 /* ---- Making ready */
+
+static struct bytes body(const uint8_t *file, size_t which)
+{
+    const uint8_t *pair = file + 2 + 4 * which;
+    return (struct bytes){ file + number_at(pair, 2), number_at(pair + 2, 2) };
+}
 
 static bool is(const uint8_t *text, size_t length, const char *word)
 {
@@ -1123,15 +1107,28 @@ static size_t put_memory(struct machine *m, uint8_t *to)
     return (size_t)(at - to);
 }
 
+/* How many variables the record lists. */
+static size_t listed(const struct machine *m)
+{
+    size_t i, count = 0;
+    for (i = 0; i < m->name_count; i++)
+        count += m->variables[i].set || m->variables[i].declared;
+    return count;
+}
+
+/* Whether the record has room; the variables are counted only where that decides. */
+static bool fits(const struct machine *m)
+{
+    size_t others = m->at + 9 * m->written + m->asked;
+    return others + 16 * m->name_count <= m->capacity || others + 16 * listed(m) <= m->capacity;
+}
+
 /* The bodies after the steps, then what stands before them; gives the record's length. */
-static size_t put_rest(struct machine *m)
+static uint32_t put_rest(struct machine *m)
 {
     uint32_t lengths[6] = { STOP, COUNTS, (uint32_t)(m->at - STEPS), 0, 0, (uint32_t)m->asked };
     uint32_t counts[3] = { m->entered, m->recorded, m->entered + m->recorded };
     uint32_t i, offset = PAIRS;
-    size_t most = 16 * m->name_count + 9 * PAGE * m->page_count + m->asked;
-    if (m->capacity - m->at < most)
-        return 0;
     lengths[3] = (uint32_t)put_variables(m, m->record + m->at);
     m->at += lengths[3];
     lengths[4] = (uint32_t)put_memory(m, m->record + m->at);
@@ -1146,7 +1143,7 @@ static size_t put_rest(struct machine *m)
     }
     memcpy(m->record + PAIRS, &m->stop, sizeof m->stop);
     memcpy(m->record + PAIRS + STOP, counts, sizeof counts);
-    return m->at;
+    return (uint32_t)m->at;
 }
 
 static void make_ready(struct machine *m, const uint8_t *routine, const uint8_t *world,
@@ -1164,30 +1161,32 @@ static void make_ready(struct machine *m, const uint8_t *routine, const uint8_t 
     read_regions(m, body(world, 2));
     if (m->page_count > 0)
         memset(m->slots, 0, sizeof m->slots);
-    m->page_count = 0;
+    m->page_count = m->written = 0;
     m->asked = 0;
     m->entered = m->recorded = 0;
     m->step = NULL;
     memset(&m->stop, 0, sizeof m->stop);
 }
 
-size_t walker_run(const uint8_t *routine, const uint8_t *world, const uint8_t *call,
-                  uint8_t *record, size_t capacity)
+uint32_t walker_run(const uint8_t *routine, const uint8_t *world, const uint8_t *call,
+                    uint8_t *record, size_t capacity, uint32_t *length)
 {
     struct machine *m = &machine;
     int how;
-    if (capacity < STEPS)
-        return 0;
     make_ready(m, routine, world, call);
     m->record = record;
-    m->capacity = capacity;
+    m->capacity = capacity < UINT32_MAX ? capacity : UINT32_MAX;
     m->at = STEPS;
+    *length = 0;
     how = setjmp(m->ended);
     if (how == 0)
         walk(m);
-    if (how == NO_ROOM)
-        return 0;
     if (m->step != NULL)
         end_step(m);
-    return put_rest(m);
+    if (how == STOPPED && fits(m)) {
+        *length = put_rest(m);
+        return 0;
+    }
+    memset(record, 0, capacity);
+    return how == STOPPED ? 22 : 21;
 }

@@ -5,9 +5,10 @@
 #include <stddef.h>
 #include <stdint.h>
 
-/* Runs a routine in a world, as a call asks, and writes the record of the run; gives the record's
- * length, or 0 where it has no room. The files are taken for well formed. */
-size_t walker_run(const uint8_t *routine, const uint8_t *world, const uint8_t *call,
-                  uint8_t *record, size_t capacity);
+/* Runs a routine in a world, as a call asks; the files are taken for well formed. Gives 0, the
+ * record of the run and its length; or 21 where the run writes too many addresses, else 22 where
+ * the record has no room, and the buffer is cleared. */
+uint32_t walker_run(const uint8_t *routine, const uint8_t *world, const uint8_t *call,
+                    uint8_t *record, size_t capacity, uint32_t *length);
 
 #endif

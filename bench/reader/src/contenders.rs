@@ -1,4 +1,5 @@
-//! The three that are timed: our library, the original, the walker in C.
+//! Those that are timed: our library, the original, the walker in C, and the
+//! walker behind a check in C.
 
 use library::Library;
 use oracle::comparison::Part;
@@ -11,21 +12,33 @@ use oracle::trees::{self, Growth};
 use crate::image::Image;
 
 extern "C" {
+    fn files_check(
+        routine: *const u8,
+        routine_length: usize,
+        world: *const u8,
+        world_length: usize,
+        call: *const u8,
+        call_length: usize,
+    ) -> u32;
+
     fn walker_run(
         routine: *const u8,
         world: *const u8,
         call: *const u8,
         record: *mut u8,
         capacity: usize,
-    ) -> usize;
+        length: *mut u32,
+    ) -> u32;
 }
 
-/// What is lent to our library, and the record buffer of the walker. All are
-/// reused from run to run and cleared by nobody but who is run.
+/// What is lent to our library, and the record buffers of the walker without
+/// and with the check. All are reused from run to run and cleared by nobody but
+/// who is run.
 pub struct Lent {
     pub record: Vec<u8>,
     pub workspace: Vec<u8>,
     pub second: Vec<u8>,
+    pub third: Vec<u8>,
 }
 
 impl Lent {
@@ -35,6 +48,7 @@ impl Lent {
             record: vec![1; record],
             workspace: vec![1; LEAST_WORKSPACE],
             second: vec![1; record],
+            third: vec![1; record],
         }
     }
 }
@@ -44,18 +58,44 @@ pub fn ours(files: &Files, record: &mut [u8], workspace: &mut [u8]) -> (u32, u32
     Library.run(files, record, workspace)
 }
 
-/// The walker in C: files in, record out; gives the record's length.
-pub fn walker(files: &Files, record: &mut [u8]) -> usize {
-    // SAFETY: the files are accepted by our library before, and the record is
-    // written within its capacity.
-    unsafe {
+/// The walker in C: files in that are well formed, record out; gives the
+/// number and the record's length.
+pub fn walker(files: &Files, record: &mut [u8]) -> (u32, u32) {
+    let mut length = 0;
+    // SAFETY: the files were accepted before, and the record is written within
+    // its capacity.
+    let number = unsafe {
         walker_run(
             files.routine.as_ptr(),
             files.world.as_ptr(),
             files.call.as_ptr(),
             record.as_mut_ptr(),
             record.len(),
+            &mut length,
         )
+    };
+    (number, length)
+}
+
+/// The check in C, then the walker: any files in, record out; gives the number
+/// and the record's length. It needs no workspace, and looks only how long one
+/// is lent.
+pub fn checked(files: &Files, record: &mut [u8], workspace: usize) -> (u32, u32) {
+    // SAFETY: each pointer comes with the length of its own slice.
+    let number = unsafe {
+        files_check(
+            files.routine.as_ptr(),
+            files.routine.len(),
+            files.world.as_ptr(),
+            files.world.len(),
+            files.call.as_ptr(),
+            files.call.len(),
+        )
+    };
+    match number {
+        0 if workspace < LEAST_WORKSPACE => (20, 0),
+        0 => walker(files, record),
+        _ => (number, 0),
     }
 }
 

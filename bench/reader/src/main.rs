@@ -1,9 +1,10 @@
-//! Our reader timed beside the original and a walker in C, on the same files.
+//! Our reader timed beside the original and a walker in C, with a check and
+//! without, on the same files.
 //!
-//! `reader` compares the records of all three and prints the tables;
-//! `reader repeat ours|rust|c TIMES ROW` does nothing but run one row, whose
-//! name begins so, for tools that count instructions; `reader try CASES` holds
-//! the walker to the original on generated cases.
+//! `reader` compares the records of all and prints the tables;
+//! `reader repeat ours|rust|c|checked TIMES ROW` does nothing but run one row,
+//! whose name begins so, for tools that count instructions; `reader try CASES`
+//! holds check and walker to the judge on generated cases.
 
 mod contenders;
 mod growth;
@@ -12,11 +13,12 @@ mod refusals;
 mod rows;
 mod table;
 mod timing;
+mod trials;
 
 use std::env;
 use std::hint::black_box;
 
-use contenders::{ours, walker, Lent, Original};
+use contenders::{checked, ours, walker, Lent, Original};
 use refusals::refusals;
 use rows::{rows, Row, BUFFER};
 
@@ -26,8 +28,8 @@ fn main() {
     match words.as_slice() {
         [] => tables(),
         ["repeat", who, times, row] => repeat(who, times.parse().expect("a number"), row),
-        ["try", cases] => table::try_walker(cases.parse().expect("a number")),
-        _ => panic!("reader, reader repeat ours|rust|c TIMES ROW, or reader try CASES"),
+        ["try", cases] => trials::try_all(cases.parse().expect("a number")),
+        _ => panic!("reader, reader repeat ours|rust|c|checked TIMES ROW, or reader try CASES"),
     }
 }
 
@@ -40,7 +42,8 @@ fn tables() {
     for row in &refusals {
         table::check_refusal(row, &mut lent);
     }
-    println!("records: the same bytes from all three on every row that runs\n");
+    println!("records: the same bytes from all on every row that runs");
+    println!("numbers: those of the judge on every row that is refused\n");
     table::print(&rows, &refusals, &mut lent);
     growth::print(&mut lent);
 }
@@ -57,17 +60,18 @@ fn repeat(who: &str, times: usize, name: &str) {
     let row = found(name);
     let mut lent = Lent::new(row.buffer);
     let original = (who == "rust").then(|| Original::new(&row.files));
+    let workspace = &mut lent.workspace[..row.workspace];
     for _ in 0..times {
-        match &original {
+        let answer = match &original {
             // Kept, as in the tables: what frees it is not looked at.
-            Some(original) => std::mem::forget(black_box(original.run())),
-            None if who == "ours" => {
-                let workspace = &mut lent.workspace[..row.workspace];
-                black_box(ours(&row.files, &mut lent.record, workspace));
+            Some(original) => {
+                std::mem::forget(black_box(original.run()));
+                continue;
             }
-            None => {
-                black_box(walker(&row.files, &mut lent.record));
-            }
-        }
+            None if who == "ours" => ours(&row.files, &mut lent.record, workspace),
+            None if who == "checked" => checked(&row.files, &mut lent.record, row.workspace),
+            None => walker(&row.files, &mut lent.record),
+        };
+        black_box(answer);
     }
 }

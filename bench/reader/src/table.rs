@@ -2,29 +2,33 @@
 
 use std::hint::black_box;
 
-use oracle::cases::case;
 use oracle::emulate::Run;
-use oracle::generate::Size;
 use oracle::judge::judge;
 
-use crate::contenders::{ours, walker, Lent, Original};
-use crate::rows::{Row, BUFFER};
+use crate::contenders::{checked, ours, walker, Lent, Original};
+use crate::rows::Row;
 use crate::timing::{medians, timed, Contender};
 
-/// Our record and the walker's must be the original's, byte for byte, and the
-/// original's timed run the one that its record was made of.
+/// Our record and those of the walker, without the check and with it, must be
+/// the original's, byte for byte, and the original's timed run the one that its
+/// record was made of.
 pub fn check(row: &Row, lent: &mut Lent) {
     let verdict = judge(&row.files, row.buffer, row.workspace);
     assert_eq!(verdict.number, 0, "{}: runs", row.name);
-    let (number, length) = ours(&row.files, &mut lent.record, &mut lent.workspace);
-    assert_eq!(number, 0, "{}: ours runs", row.name);
-    let length = length as usize;
-    let same = lent.record[..length] == verdict.record[..];
-    assert!(same, "{}: our record is the original's", row.name);
-    lent.record[..length].fill(0xa5);
-    let length = walker(&row.files, &mut lent.record);
-    let same = lent.record[..length] == verdict.record[..];
-    assert!(same, "{}: the walker's record is the original's", row.name);
+    let same = |who: &str, (number, length): (u32, u32), record: &mut [u8]| {
+        assert_eq!(number, 0, "{}: {who} runs", row.name);
+        let record = &mut record[..length as usize];
+        let same = *record == verdict.record[..];
+        assert!(same, "{}: the record of {who} is the original's", row.name);
+        record.fill(0xa5);
+    };
+    let Lent {
+        record, workspace, ..
+    } = lent;
+    same("ours", ours(&row.files, record, workspace), record);
+    same("the walker", walker(&row.files, record), record);
+    let answer = checked(&row.files, record, row.workspace);
+    same("C, checked", answer, record);
     let judged = verdict.ran.expect("it ran").run;
     let same = outcome(Original::new(&row.files).run()) == outcome(judged);
     assert!(same, "{}: the timed run is the judged one", row.name);
@@ -36,22 +40,6 @@ fn outcome(mut run: Run) -> Run {
     run
 }
 
-/// The walker's records must be the original's on generated cases, too.
-pub fn try_walker(cases: u64) {
-    let mut record = vec![0; BUFFER];
-    let mut accepted = 0;
-    for seed in 0..cases {
-        let case = case(2 * seed, Size::Any);
-        let verdict = case.judge();
-        if verdict.number == 0 {
-            let length = walker(&case.files, &mut record);
-            assert!(record[..length] == verdict.record[..], "case {seed}");
-            accepted += 1;
-        }
-    }
-    println!("{accepted} generated cases: the walker's records are the original's");
-}
-
 /// The number must be the one that the row is for.
 pub fn check_refusal(row: &Row, lent: &mut Lent) {
     let verdict = judge(&row.files, row.buffer, row.workspace);
@@ -59,12 +47,14 @@ pub fn check_refusal(row: &Row, lent: &mut Lent) {
     let record = &mut lent.record[..row.buffer];
     let (number, _) = ours(&row.files, record, &mut lent.workspace[..row.workspace]);
     assert_eq!(number, row.number, "{}: ours", row.name);
+    let (number, _) = checked(&row.files, record, row.workspace);
+    assert_eq!(number, row.number, "{}: C, checked", row.name);
 }
 
 pub fn print(rows: &[Row], refusals: &[Row], lent: &mut Lent) {
     println!(
-        "{:42} {:>9} {:>12} {:>9} {:>7} {:>10}",
-        "row", "units", "ours, ns", "ours/Rust", "ours/C", "ns per"
+        "{:42} {:>9} {:>12} {:>9} {:>7} {:>14} {:>10}",
+        "row", "units", "ours, ns", "ours/Rust", "ours/C", "ours/C checked", "ns per"
     );
     for row in rows {
         print_row(row, lent);
@@ -81,21 +71,24 @@ fn print_row(row: &Row, lent: &mut Lent) {
         record,
         workspace,
         second,
+        third,
     } = lent;
     let original = Original::new(&row.files);
-    let mut contenders: [Contender; 3] = [
+    let mut contenders: [Contender; 4] = [
         Box::new(|| timed(|| ours(&row.files, record, workspace))),
         Box::new(|| timed(|| original.run())),
         Box::new(|| timed(|| walker(&row.files, second))),
+        Box::new(|| timed(|| checked(&row.files, third, row.workspace))),
     ];
     let times = medians(&mut contenders);
     println!(
-        "{:42} {:>9} {:>12.0} {:>9.3} {:>7.2} {:>10.2} {}",
+        "{:42} {:>9} {:>12.0} {:>9.3} {:>7.2} {:>14.2} {:>10.2} {}",
         row.name,
         units,
         times[0],
         times[0] / times[1],
         times[0] / times[2],
+        times[0] / times[3],
         times[0] / row.work.0 as f64,
         row.work.1
     );
@@ -115,15 +108,25 @@ const REFUSALS: u32 = 100;
 fn print_refusal(row: &Row, lent: &mut Lent) {
     let record = &mut lent.record[..row.buffer];
     let workspace = &mut lent.workspace[..row.workspace];
-    let mut many = || {
+    let third = &mut lent.third[..row.buffer];
+    let mut contenders: [Contender; 2] = [
+        many(|| ours(&row.files, record, workspace)),
+        many(|| checked(&row.files, third, row.workspace)),
+    ];
+    let times = medians(&mut contenders);
+    let ratio = times[0] / times[1];
+    println!(
+        "{:42} {:>9} {:>12.0} {:>9} {:>7} {:>14.2} {:>10}",
+        row.name, "-", times[0], "-", "-", ratio, "-"
+    );
+}
+
+/// A contender that refuses many times at once.
+fn many<'a>(mut refused: impl FnMut() -> (u32, u32) + 'a) -> Contender<'a> {
+    let mut all = move || {
         for _ in 0..REFUSALS {
-            black_box(ours(&row.files, record, workspace));
+            black_box(refused());
         }
     };
-    let mut contenders: [Contender; 1] = [Box::new(|| timed(&mut many) / REFUSALS)];
-    let times = medians(&mut contenders);
-    println!(
-        "{:42} {:>9} {:>12.0} {:>9} {:>7} {:>10}",
-        row.name, "-", times[0], "-", "-", "-"
-    );
+    Box::new(move || timed(&mut all) / REFUSALS)
 }
