@@ -74,7 +74,7 @@ pub fn execute(
     results::noted(ws, kind, ok)
 }
 
-// An Assign that is a statement. To a variable, as most are, it takes no call of the cycle for itself: what it does there is said in `assign`.
+// An Assign that is a statement. One to a variable, as most are, does here what `assign` does, without a call of the cycle for itself.
 fn execute_assign(
     nodes: &[u8],
     symbols: &[u8],
