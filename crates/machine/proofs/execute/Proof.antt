@@ -11,7 +11,9 @@ execute-spec =
     (tie.spec
     (λ c κs. search needs)  -- enter-requires
     (λ c κs. search (needs, room))  -- kind-requires
-    (λ c κs. (search (needs, enters-ready), (search needs, search (needs, same-kind))))  -- execute-assign-requires
+    (λ c κs.  -- execute-assign-requires
+    let i = c .before .before in
+    (search (needs, enters-ready), (search needs, same-kind (i .before .kind .ensures) (i .if1 .taken))))
     (λ c κs. search (needs, room-after, enters-ready))  -- executed-requires
     (λ c. search needs)  -- same-length
     (λ c. search needs)  -- same-length-2

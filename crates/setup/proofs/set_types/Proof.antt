@@ -28,7 +28,14 @@ same-length : tie.Need-same-length
 same-length c = search needs
 
 returns : tie.Need-returns
-returns c = search (needs, types-set, types-size)
+returns c =
+    let p = c .before .before in
+    let b = p .before .before in
+    let k = b .before .before .before in
+    let s = k .before .before .before .before in
+    let w = s .args .ws .now in
+    let z = k .clear .last .0 in
+    (types-set (s .args .routine .now) w z (s .pre .1) (k .clear .ensures) (b .body .ensures) (p .put-types .ensures), types-size (s .args .routine .now) w z (s .pre .1) (k .clear .ensures) (b .body .ensures) (p .put-types .ensures))
 
 pub set-types-spec : {M : Type 1} → statement M
 set-types-spec =
