@@ -10,6 +10,9 @@
 
 #define DEEPEST 64
 
+/* Where the symbol lies. */
+#define SYMBOL_AT 4096
+
 /* A node of a chain, with what stands beside the next one: nodes before it and after it. */
 struct link {
     char letter;
@@ -39,31 +42,50 @@ static const struct link links[] = {
 struct chain {
     const char *name;
     const char *letters; /* over and over */
+    const char *lowest;  /* then these, if any */
 };
 
 static const struct chain chains[] = {
-    { "casts", "c" },
-    { "loads", "d" },
-    { "loads of casts", "dc" },
-    { "addresses", "&" },
-    { "assigns", "=" },
-    { "stores in pointers", "*d" },
-    { "stores in cast pointers", "*dc" },
-    { "conditions", "?" },
-    { "arms", ":" },
-    { "calls", "(" },
-    { "calls with 16 arguments", "," },
-    { "right operands", "+" },
-    { "left operands", "-" },
-    { "intrinsics", "i" },
-    { "returns", "r" },
-    { "struct stores", "s{f" },
-    { "assigned calls", "=(" },
-    { "assigned conditions in calls", "=?(" },
-    { "all sorts", "=?(,+-cd*dir" },
-    { "a wide intrinsic", "I" },
-    { "a wide struct", "S" },
+    { "casts", "c", "" },
+    { "loads", "d", "" },
+    { "loads of casts", "dc", "" },
+    { "addresses", "&", "" },
+    { "assigns", "=", "" },
+    { "stores in pointers", "*d", "" },
+    { "stores in cast pointers", "*dc", "" },
+    { "conditions", "?", "" },
+    { "arms", ":", "" },
+    { "calls", "(", "" },
+    { "calls with 16 arguments", ",", "" },
+    { "right operands", "+", "" },
+    { "left operands", "-", "" },
+    { "intrinsics", "i", "" },
+    { "returns", "r", "" },
+    { "struct stores", "s{f", "" },
+    { "assigned calls", "=(", "" },
+    { "assigned conditions in calls", "=?(", "" },
+    { "all sorts", "=?(,+-cd*dir", "" },
+    { "casts of a load", "c", "d" },
+    { "casts of a load of a cast", "c", "dc" },
+    { "casts of an assign", "c", "=" },
+    { "casts of a store", "c", "*d" },
+    { "casts of a store in a cast pointer", "c", "*dc" },
+    { "casts of a stored value", "c", "sc" },
+    { "casts of a struct store", "c", "s{f" },
+    { "casts of a call", "c", "(" },
+    { "casts of a call with 16 arguments", "c", "," },
+    { "casts of a call that takes an address", "c", "(&" },
+    { "casts of an operand", "c", "+" },
+    { "casts of an intrinsic", "c", "i" },
+    { "a wide intrinsic", "I", "" },
+    { "a wide struct", "S", "" },
 };
+
+/* What stands at the end of a chain: a constant, a symbol in the world's memory, or one that is in
+ * memory that the run has written. */
+enum end { CONSTANT_END, SYMBOL_END, WRITTEN_END, ENDINGS };
+
+static const char *const endings[ENDINGS] = { "a constant", "a symbol", "a written symbol" };
 
 static struct routine parts;
 static struct made routine, world, call;
@@ -79,8 +101,11 @@ static const struct link *link_of(char letter)
 /* The link at a level; where a Return stands on top, the chain begins below it. */
 static const struct link *link_at(const struct chain *chain, bool returned, size_t level)
 {
+    size_t lowest = DEEPEST - 1 - strlen(chain->lowest);
     if (returned && level == 0)
         return link_of('r');
+    if (level >= lowest)
+        return link_of(chain->lowest[level - lowest]);
     return link_of(chain->letters[(level - returned) % strlen(chain->letters)]);
 }
 
@@ -92,7 +117,7 @@ static void put_before(const struct link *l)
         node(&parts, FUNCTION_NAME, 0, 0, 0, 1, 0);
         i = 1;
     } else if (l->letter == '=') {
-        var(&parts, 1);
+        var(&parts, 2);
         i = 1;
     } else if (l->letter == 's') {
         over(&parts, DEREF, 2);
@@ -102,8 +127,16 @@ static void put_before(const struct link *l)
         constant(&parts, 1, 1);
 }
 
+static void put_end(enum end end)
+{
+    if (end == CONSTANT_END)
+        constant(&parts, 1, 1);
+    else
+        var(&parts, 1);
+}
+
 /* A tree whose longest chain has 64 nodes, or 63 where a field would be missing at its end. */
-static void put_chain(const struct chain *chain, bool returned)
+static void put_chain(const struct chain *chain, enum end end, bool returned)
 {
     uint32_t span = 1;
     size_t level, last = DEEPEST - 1;
@@ -120,7 +153,7 @@ static void put_chain(const struct chain *chain, bool returned)
         put_before(l);
         span -= 1 + l->before + l->after;
     }
-    constant(&parts, 1, 1);
+    put_end(end);
     while (level > 0) {
         level--;
         for (i = 0; i < link_at(chain, returned, level)->after; i++)
@@ -154,14 +187,25 @@ static void put_wide_struct(void)
     }
 }
 
-static void put_tree(const struct chain *chain, bool returned)
+static void put_tree(const struct chain *chain, enum end end, bool returned)
 {
     if (chain->letters[0] == 'I')
         put_wide_intrinsic();
     else if (chain->letters[0] == 'S')
         put_wide_struct();
     else
-        put_chain(chain, returned);
+        put_chain(chain, end, returned);
+}
+
+/* A store of 1 to where the symbol is, as a statement of its own. */
+static void put_store(void)
+{
+    uint32_t root = (uint32_t)(parts.nodes.length / 20);
+    over(&parts, ASSIGN, 4);
+    over(&parts, DEREF, 2);
+    constant(&parts, 2, SYMBOL_AT);
+    constant(&parts, 8, 1);
+    statement(&parts, 0, 0, root);
 }
 
 /* Where the chain stands. */
@@ -171,22 +215,37 @@ static const char *const places[PLACES] = {
     "as a statement", "under a return", "as a condition", "by itself"
 };
 
-static void make_files(const struct chain *chain, enum place place)
+static void make_world(void)
 {
+    static const uint8_t bytes[16] = { 1 };
+    static struct world w;
+    memset(&w, 0, sizeof w);
+    put_text(&w.names, "s");
+    symbol(&w, 0, 8, SYMBOL_AT);
+    region(&w, SYMBOL_AT - 8, bytes, sizeof bytes);
+    finish_world(&w, &world);
+}
+
+static void make_files(const struct chain *chain, enum end end, enum place place)
+{
+    unsigned first = end == WRITTEN_END;
     begin(&parts, 0, 0, 0, 0);
     put_text(&parts.names, "f");
+    put_text(&parts.names, "s");
     put_text(&parts.names, "x");
     put_text(&parts.types, "long *");
-    variable(&parts, 1, 0);
-    put_tree(chain, place == RETURNED);
+    variable(&parts, 2, 0);
+    put_tree(chain, end, place == RETURNED);
+    if (first)
+        put_store();
     if (place == CONDITION) {
-        block(&parts, 0, BRANCH, 0, 1, 1);
+        block(&parts, first, BRANCH, 0, 1, 1);
     } else {
         statement(&parts, 0, 0, 0);
-        block(&parts, 1, ENDS, 0, 0, 0);
+        block(&parts, first + 1, ENDS, 0, 0, 0);
     }
     finish(&parts, &routine);
-    empty_world(&world);
+    make_world();
     make_call(&call, 10, 8, NULL, 0);
 }
 
@@ -243,30 +302,42 @@ static size_t used_by(struct task *task)
     return (size_t)(task->top - (stack.bytes + lowest));
 }
 
+/* What was used at most, and by what. */
+struct most {
+    size_t used;
+    const char *chain, *end, *place;
+};
+
+/* Tells whether the files were accepted; keeps the most that a call used. */
+static bool measure(const struct chain *chain, enum end end, enum place place, struct most *most)
+{
+    struct task task = { place, 0, NULL };
+    size_t used;
+    make_files(chain, end, place);
+    used = used_by(&task);
+    if (used > most->used) {
+        most->used = used;
+        most->chain = chain->name;
+        most->end = endings[end];
+        most->place = places[place];
+    }
+    if (task.number != 0)
+        printf("%s over %s %s: refused by %u\n", chain->name, endings[end], places[place],
+               (unsigned)task.number);
+    return task.number == 0;
+}
+
 int main(void)
 {
-    size_t i, most = 0;
-    int place, failed = 0;
-    const char *chain = "", *at = "";
-    for (i = 0; i < sizeof chains / sizeof *chains; i++) {
-        for (place = 0; place < PLACES; place++) {
-            struct task task = { (enum place)place, 0, NULL };
-            size_t used;
-            make_files(&chains[i], task.place);
-            used = used_by(&task);
-            if (task.number != 0) {
-                printf("%s %s: refused by %u\n", chains[i].name, places[place],
-                       (unsigned)task.number);
-                failed = 1;
-            }
-            if (used > most) {
-                most = used;
-                chain = chains[i].name;
-                at = places[place];
-            }
-        }
-    }
-    printf("%lu of %lu bytes of stack: %s %s\n", (unsigned long)most,
-           (unsigned long)EMULATE_STACK_NEEDED, chain, at);
-    return failed || most > EMULATE_STACK_NEEDED;
+    struct most most = { 0, "", "", "" };
+    size_t i;
+    int end, place;
+    bool fine = true;
+    for (i = 0; i < sizeof chains / sizeof *chains; i++)
+        for (end = 0; end < ENDINGS; end++)
+            for (place = 0; place < PLACES; place++)
+                fine &= measure(&chains[i], (enum end)end, (enum place)place, &most);
+    printf("%lu of %lu bytes of stack: %s over %s %s\n", (unsigned long)most.used,
+           (unsigned long)EMULATE_STACK_NEEDED, most.chain, most.end, most.place);
+    return !fine || most.used > EMULATE_STACK_NEEDED;
 }

@@ -523,7 +523,7 @@ fn kids(
     let mut i = n;
     while i != end {
         let more = places::next(nodes, i);
-        if !operand(nodes, symbols, regions, ws, out, i) {
+        if !evaluate(nodes, symbols, regions, ws, out, i) {
             return false;
         }
         i = more;

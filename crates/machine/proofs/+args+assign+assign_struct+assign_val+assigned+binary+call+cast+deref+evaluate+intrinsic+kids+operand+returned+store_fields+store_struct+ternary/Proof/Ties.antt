@@ -72,7 +72,7 @@ abbrev pub μ-intrinsic : Measures 5 intrinsic-kinds.ps ℕ
 μ-intrinsic κs a = left (a .0 .now) (a .1 .1 .1 .1 .1 .0) 0
 
 abbrev pub μ-kids : Measures 5 kids-kinds.ps ℕ
-μ-kids κs a = left (a .0 .now) (a .1 .1 .1 .1 .1 .0) 5
+μ-kids κs a = left (a .0 .now) (a .1 .1 .1 .1 .1 .0) 4
 
 abbrev pub μ-operand : Measures 5 operand-kinds.ps ℕ
 μ-operand κs a = left (a .0 .now) (a .1 .1 .1 .1 .1 .0) 4
