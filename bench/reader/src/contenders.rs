@@ -31,14 +31,20 @@ extern "C" {
     ) -> u32;
 }
 
-/// What is lent to our library, and the record buffers of the walker without
-/// and with the check. All are reused from run to run and cleared by nobody but
-/// who is run.
+/// What our library may be lent beyond the least workspace: room for the
+/// questions of every row.
+const QUESTIONS: usize = 1 << 22;
+
+/// What is lent to our library, the record buffers of the walker without and
+/// with the check, and what is lent to our library with the least workspace.
+/// All are reused from run to run and cleared by nobody but who is run.
 pub struct Lent {
     pub record: Vec<u8>,
     pub workspace: Vec<u8>,
     pub second: Vec<u8>,
     pub third: Vec<u8>,
+    pub least: Vec<u8>,
+    pub fourth: Vec<u8>,
 }
 
 impl Lent {
@@ -46,9 +52,11 @@ impl Lent {
         // Written, so that no page is touched for the first time while timed.
         Self {
             record: vec![1; record],
-            workspace: vec![1; LEAST_WORKSPACE],
+            workspace: vec![1; LEAST_WORKSPACE + QUESTIONS],
             second: vec![1; record],
             third: vec![1; record],
+            least: vec![1; LEAST_WORKSPACE],
+            fourth: vec![1; record],
         }
     }
 }

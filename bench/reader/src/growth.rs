@@ -6,6 +6,7 @@ use std::iter::once;
 
 use crate::contenders::{ours, Lent};
 use crate::rows::{copies, counting, jumps, loads, reads, Row};
+use crate::table::told;
 use crate::timing::{medians, timed, Contender};
 
 /// A run, and a shorter one whose time and work are taken off, so that what
@@ -73,10 +74,12 @@ fn line(title: &str, costs: &[Cost], lent: &mut Lent) {
     println!("  spread {:.0} %\n", 100.0 * (most / least - 1.0));
 }
 
-/// One run of a row.
+/// One run of a row, with room for its questions.
 fn contender<'a>(row: &'a Row, lent: &'a RefCell<&mut Lent>) -> Contender<'a> {
+    let questions = told(row, &mut lent.borrow_mut().second).questions;
     Box::new(move || {
         let lent = &mut *lent.borrow_mut();
-        timed(|| ours(&row.files, &mut lent.record, &mut lent.workspace))
+        let roomy = &mut lent.workspace[..row.workspace + questions];
+        timed(|| ours(&row.files, &mut lent.record, roomy))
     })
 }

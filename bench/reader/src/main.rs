@@ -2,9 +2,10 @@
 //! without, on the same files.
 //!
 //! `reader` compares the records of all and prints the tables;
-//! `reader repeat ours|rust|c|checked TIMES ROW` does nothing but run one row,
-//! whose name begins so, for tools that count instructions; `reader try CASES`
-//! holds check and walker to the judge on generated cases.
+//! `reader repeat ours|least|rust|c|checked TIMES ROW` does nothing but run one
+//! row, whose name begins so, for tools that count instructions (ours with room
+//! for the questions, or with the least workspace); `reader try CASES` holds
+//! check and walker to the judge on generated cases.
 
 mod contenders;
 mod growth;
@@ -29,7 +30,9 @@ fn main() {
         [] => tables(),
         ["repeat", who, times, row] => repeat(who, times.parse().expect("a number"), row),
         ["try", cases] => trials::try_all(cases.parse().expect("a number")),
-        _ => panic!("reader, reader repeat ours|rust|c|checked TIMES ROW, or reader try CASES"),
+        _ => {
+            panic!("reader, reader repeat ours|least|rust|c|checked TIMES ROW, or reader try CASES")
+        }
     }
 }
 
@@ -60,7 +63,11 @@ fn repeat(who: &str, times: usize, name: &str) {
     let row = found(name);
     let mut lent = Lent::new(row.buffer);
     let original = (who == "rust").then(|| Original::new(&row.files));
-    let workspace = &mut lent.workspace[..row.workspace];
+    let roomy = match (who, row.number) {
+        ("ours", 0) => row.workspace + table::told(&row, &mut lent.second).questions,
+        _ => row.workspace,
+    };
+    let workspace = &mut lent.workspace[..roomy];
     for _ in 0..times {
         let answer = match &original {
             // Kept, as in the tables: what frees it is not looked at.
@@ -68,7 +75,9 @@ fn repeat(who: &str, times: usize, name: &str) {
                 std::mem::forget(black_box(original.run()));
                 continue;
             }
-            None if who == "ours" => ours(&row.files, &mut lent.record, workspace),
+            None if ["ours", "least"].contains(&who) => {
+                ours(&row.files, &mut lent.record, workspace)
+            }
             None if who == "checked" => checked(&row.files, &mut lent.record, row.workspace),
             None => walker(&row.files, &mut lent.record),
         };

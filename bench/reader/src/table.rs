@@ -26,6 +26,8 @@ pub fn check(row: &Row, lent: &mut Lent) {
         record, workspace, ..
     } = lent;
     same("ours", ours(&row.files, record, workspace), record);
+    let least = &mut workspace[..row.workspace];
+    same("ours in the least", ours(&row.files, record, least), record);
     same("the walker", walker(&row.files, record), record);
     let answer = checked(&row.files, record, row.workspace);
     same("C, checked", answer, record);
@@ -53,8 +55,8 @@ pub fn check_refusal(row: &Row, lent: &mut Lent) {
 
 pub fn print(rows: &[Row], refusals: &[Row], lent: &mut Lent) {
     println!(
-        "{:42} {:>9} {:>12} {:>9} {:>7} {:>14} {:>10}",
-        "row", "units", "ours, ns", "ours/Rust", "ours/C", "ours/C checked", "ns per"
+        "{:42} {:>9} {:>12} {:>9} {:>7} {:>14} {:>8} {:>10}",
+        "row", "units", "ours, ns", "ours/Rust", "ours/C", "ours/C checked", "least/C", "ns per"
     );
     for row in rows {
         print_row(row, lent);
@@ -66,39 +68,53 @@ pub fn print(rows: &[Row], refusals: &[Row], lent: &mut Lent) {
 }
 
 fn print_row(row: &Row, lent: &mut Lent) {
-    let units = units(row, lent);
+    let told = told(row, &mut lent.second);
     let Lent {
         record,
         workspace,
         second,
         third,
+        least,
+        fourth,
     } = lent;
     let original = Original::new(&row.files);
-    let mut contenders: [Contender; 4] = [
-        Box::new(|| timed(|| ours(&row.files, record, workspace))),
+    let roomy = &mut workspace[..row.workspace + told.questions];
+    let mut contenders: [Contender; 5] = [
+        Box::new(|| timed(|| ours(&row.files, record, roomy))),
         Box::new(|| timed(|| original.run())),
         Box::new(|| timed(|| walker(&row.files, second))),
         Box::new(|| timed(|| checked(&row.files, third, row.workspace))),
+        Box::new(|| timed(|| ours(&row.files, fourth, least))),
     ];
     let times = medians(&mut contenders);
     println!(
-        "{:42} {:>9} {:>12.0} {:>9.3} {:>7.2} {:>14.2} {:>10.2} {}",
+        "{:42} {:>9} {:>12.0} {:>9.3} {:>7.2} {:>14.2} {:>8.2} {:>10.2} {}",
         row.name,
-        units,
+        told.units,
         times[0],
         times[0] / times[1],
         times[0] / times[2],
         times[0] / times[3],
+        times[4] / times[2],
         times[0] / row.work.0 as f64,
         row.work.1
     );
 }
 
-/// The units that a run spends, as its record tells.
-fn units(row: &Row, lent: &mut Lent) -> u32 {
-    ours(&row.files, &mut lent.record, &mut lent.workspace);
-    let field = &lent.record[48 + 39 + 8..][..4];
-    u32::from_le_bytes(field.try_into().expect("four bytes"))
+/// The units that a run spends and the bytes of its questions.
+pub struct Told {
+    pub units: u32,
+    pub questions: usize,
+}
+
+/// What the walker's record tells of a row that runs.
+pub fn told(row: &Row, record: &mut [u8]) -> Told {
+    walker(&row.files, record);
+    let field = |at: usize| u32::from_le_bytes(record[at..][..4].try_into().expect("four bytes"));
+    Told {
+        units: field(48 + 39 + 8),
+        questions: field(5 * 8 + 4) as usize,
+    }
 }
 
 /// Some refusals take less time than a look at the clock, so that many are
@@ -116,8 +132,8 @@ fn print_refusal(row: &Row, lent: &mut Lent) {
     let times = medians(&mut contenders);
     let ratio = times[0] / times[1];
     println!(
-        "{:42} {:>9} {:>12.0} {:>9} {:>7} {:>14.2} {:>10}",
-        row.name, "-", times[0], "-", "-", ratio, "-"
+        "{:42} {:>9} {:>12.0} {:>9} {:>7} {:>14.2} {:>8} {:>10}",
+        row.name, "-", times[0], "-", "-", ratio, "-", "-"
     );
 }
 

@@ -44,9 +44,9 @@ module _ (R : Ran) (record₀ w₀ record₁ w : List ℕ) (limit : ℕ) (stop :
     first-written h = passed .written h
 
     pub first-ended : Ended R limit stop w a
-    first-ended = record { holds = passed .holds; stop = ends .same ∙ ap ended (sym (passed .stop)) }
+    first-ended = record { holds = passed .holds; keeps = passed .keeps; stop = ends .same ∙ ap ended (sym (passed .stop)) }
 
-    -- the second pass finds the tables that were made for the first
+    -- a second pass finds the tables that were made for the first
     pub first-tabled : {routine world : List ℕ} {x : Indexed} → Tabled routine world w₀ x → Tabled routine world w x
     first-tabled h = tabled-kept h (kept-whole ends (p .tables))
 

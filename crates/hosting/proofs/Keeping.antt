@@ -1,5 +1,5 @@
 -- What stays where the tables do, and variables looked up and set, as runs on the code's host. Assumes nothing.
-use mathlib.Core.Path.{_≡_, sym, ap, subst}
+use mathlib.Core.Path.{_≡_, sym, ap₂, subst}
 use mathlib.Core.List.{List}
 use mathlib.Core.Option.{Option}
 use Prim.Native.Nat.{ℕ}
@@ -48,5 +48,5 @@ unfolding hosted codeHost held
 set-runs u {w} {w′} {o} {a} c p = record {
   ready = kept-ready (c .tables) (c .fit (a .stored) (p .fit)) p;
   tables = c .tables;
-  came = λ x h. ap (λ (z : View). (gave u, record { view = z; out = o; tally = a .tally })) (sym (c .holds (a .stored)));
+  came = λ x h. ap₂ (λ (z : View) (q : List ℕ). (gave u, record { view = z; out = o; questions = q; tally = a .tally })) (sym (c .holds (a .stored))) (sym (c .questions));
 }

@@ -10,19 +10,22 @@ use Rattle.definition.specs.Act.{Step, Op, peekOp, pokeOp, getOp, setOp, pendin
 use Rattle.definition.specs.State.{some?}
 use Rattle.definition.specs.Record.{stepFields}
 use Rattle.definition.specs.Host.{Host}
+use Rattle.workspace.specs.Parts.{questionsPart}
 use Rattle.workspace.specs.View.{View, view, setting, leaving}
 use Rattle.stream.specs.Stream.{placed, advanced}
 use Rattle.stream.specs.Pieces.{questionBytes, stepBytes}
 use Rattle.hosting.specs.declared.Tally.{Tally}
 use Rattle.hosting.specs.declared.Counts.{Counts}
 
+-- the view and the part of the record that is being written, the questions beside the tables, and the counts
 pub record Held : Type 0 where
   pub view : View
   pub out : List ℕ
+  pub questions : List ℕ
   pub tally : Tally
 
 unfoldable pub held : List ℕ → List ℕ → Counts → Held
-held w o a = record { view = view w (a .stored); out = o; tally = a .tally }
+held w o a = record { view = view w (a .stored); out = o; questions = questionsPart w; tally = a .tally }
 
 -- ---- counts: with another cursor of the questions, with another number of entries, after a step of n bytes, after a unit is paid
 
@@ -43,12 +46,13 @@ paidTally zero b t = t
 paidTally (suc n) true t = record { recorded = t .recorded; asked = t .asked; left = n; entered = suc (t .entered); steps = t .steps }
 paidTally (suc n) false t = record { recorded = t .recorded; asked = t .asked; left = n; entered = t .entered; steps = suc (t .steps) }
 
--- ---- the streams: in the second pass the questions are written, in the first the steps
+-- ---- the streams: in the first pass the steps are written, and the questions kept beside the tables; in the second the questions are written
 
 unfoldable pub asked : Bool → Entry → Held → Held
 asked second e s = record {
   view = s .view;
   out = placed second (s .out) (s .tally .asked) (questionBytes e);
+  questions = placed (not second) (s .questions) (s .tally .asked) (questionBytes e);
   tally = askedTally (advanced (s .tally .asked) (length (questionBytes e))) (s .tally);
 }
 
@@ -56,13 +60,14 @@ unfoldable pub emitted : Bool → Step → Held → Held
 emitted second e s = record {
   view = s .view;
   out = placed (not second) (s .out) (s .tally .recorded) (stepBytes (stepFields e));
+  questions = s .questions;
   tally = stepTally (s .tally) (length (stepBytes (stepFields e)));
 }
 
 -- ---- the operations
 
 abbrev pub withView : View → Held → Held
-withView v s = record { view = v; out = s .out; tally = s .tally }
+withView v s = record { view = v; out = s .out; questions = s .questions; tally = s .tally }
 
 abbrev pub withMemory : Overlay Cell → View → View
 withMemory m v = record { variables = v .variables; memory = m; pending = v .pending }
@@ -84,7 +89,7 @@ nextOf second s (getOp x) = s
 nextOf second s (setOp x v) = withView (setting x v (s .view)) s
 nextOf second s pendingOp = s
 nextOf second s (leaveOp p) = withView (leaving p (s .view)) s
-nextOf second s (spendOp b) = record { view = s .view; out = s .out; tally = paidTally (s .tally .left) b (s .tally) }
+nextOf second s (spendOp b) = record { view = s .view; out = s .out; questions = s .questions; tally = paidTally (s .tally .left) b (s .tally) }
 nextOf second s (emitOp e) = emitted second e s
 
 unfoldable pub codeHost : World → Bool → Host Held

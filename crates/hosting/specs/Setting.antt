@@ -16,7 +16,7 @@ use Rattle.definition.specs.World.{worldOf}
 use Rattle.definition.specs.Walk.{envOf, variablesAtStart, variablesAtEnd}
 use Rattle.definition.specs.Constant.{nothing, constantEnv}
 use Rattle.index.specs.Regions.{RegionsIndexed}
-use Rattle.workspace.specs.Parts.{tables, regionsPart, blocksPart}
+use Rattle.workspace.specs.Parts.{tables, regionsPart, blocksPart, questionsPart}
 use Rattle.workspace.specs.View.{View, view, Fit}
 use Rattle.hosting.specs.declared.How.{How}
 use Rattle.hosting.specs.declared.Indexed.{Indexed}
@@ -63,6 +63,7 @@ pub record Finished (routine w₀ w : List ℕ) : Type 0 where
   pub fit : (stored : ℕ) → Fit w₀ stored → Fit w stored
   pub tables : tables w ≡ tables w₀
   pub size : length w ≡ length w₀
+  pub questions : questionsPart w ≡ questionsPart w₀
 
 -- ---- `constant_value`: no world, no variable
 

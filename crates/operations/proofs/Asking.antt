@@ -3,12 +3,12 @@ use mathlib.Core.Path.{_≡_, refl, sym, ap, ap₂, _∙_, subst}
 use mathlib.Core.Bool.{Bool, not}
 use mathlib.Core.List.{List, _∷_}
 use mathlib.Core.Option.{Option, none, some}
-use Prim.Native.Nat.{ℕ, zero, suc, _+_, _/_, _%_, _^_, max, _≤_, _<_}
+use Prim.Native.Nat.{ℕ, zero, suc, _+_, _-_, _/_, _%_, _^_, max, _≤_, _<_}
 use native.Mathlib.Omega.{arith}
 use native.Mathlib.Nat.{mod-eq-of-lt}
 use lib.ListN.{length, drop}
 use lib.Dec.{eqb}
-use borrow.Rule.Slice.PartMut.{midOf}
+use borrow.Rule.Slice.PartMut.{midOf, putMid, same-len-mid}
 use Rattle.layout.specs.Format.{boolOf}
 use Rattle.layout.specs.Number.{le, num}
 use Rattle.value.specs.declared.Ty.{Ty}
@@ -28,11 +28,12 @@ use Rattle.definition.proofs.Hosts.{goOnFrom, hosted-bind}
 use Rattle.index.specs.Regions.{RegionsIndexed, ReadFrom}
 use Rattle.stream.specs.Stream.{placed, advanced, Sent}
 use Rattle.stream.specs.Pieces.{questionBytes, readEntry}
-use Rattle.workspace.specs.Parts.{workspaceSize, registersPart, tablesPlace, tables, regionsPlace, regionsSize, regionsPart}
-use Rattle.workspace.specs.Registers.{wordAt}
-use Rattle.workspace.specs.View.{view, Fit}
-use Rattle.workspace.specs.Post.{SetsWord}
-use Rattle.workspace.proofs.LendLaws.{regions-lent}
+use Rattle.stream.proofs.StreamLaws.{length-placed}
+use Rattle.workspace.specs.Parts.{workspaceSize, registersPart, tablesPlace, tables, regionsPlace, regionsSize, regionsPart, questionsPlace, questionsPart}
+use Rattle.workspace.specs.Registers.{wordCount, wordAt}
+use Rattle.workspace.specs.View.{View, view, Fit}
+use Rattle.workspace.specs.Post.{SetsWord, PutsQuestions}
+use Rattle.workspace.proofs.LendLaws.{regions-lent, questions-lent, questions-back}
 use Rattle.value.proofs.EncodingLaws.{flag-read}
 use Rattle.hosting.specs.declared.How.{How}
 use Rattle.hosting.specs.declared.Counts.{Counts}
@@ -46,34 +47,71 @@ use Rattle.operations.specs.Registers.{countsIn, howIn, endIn}
 use Rattle.operations.specs.Going.{Goes}
 use Rattle.operations.specs.Steps.{Gives}
 use Rattle.operations.specs.Asking.{Sends, Asks, foundVal, LoadsAt}
-use Rattle.operations.proofs.Registers.{stored-word, asked-word, regions-word, second-word, asked-set, asked-how}
-use Rattle.operations.proofs.Going.{aside-held, goes, acts, gives-goes}
+use Rattle.operations.proofs.Registers.{stored-word, asked-word, regions-word, second-word, asked-set, asked-how, counts-same, how-same}
+use Rattle.operations.proofs.Going.{goes, acts, gives-goes}
 
 -- ---- bytes sent
 
 pub sends-held : (e : Entry) {w o w′ o′ : List ℕ} → Sends (questionBytes e) w o w′ o′ → held w′ o′ (countsIn w′) ≡ asked (howIn w .second) e (held w o (countsIn w))
 unfolding held asked
-sends-held e {w} {o} {w′} {o′} s = aside-held o′ (countsIn w′) (s .aside) ∙ ap₂ (λ (l : List ℕ) (b : Counts). record { view = view w (b .stored); out = l; tally = b .tally }) (s .part) (s .counts)
+sends-held e {w} {o} {w′} {o′} s =
+    ap (λ (v : View). record { view = v; out = o′; questions = questionsPart w′; tally = countsIn w′ .tally }) (s .kept .holds (countsIn w′ .stored))
+    ∙ ap₂ (λ (l q : List ℕ). record { view = view w (countsIn w′ .stored); out = l; questions = q; tally = countsIn w′ .tally }) (s .part) (s .questions)
+    ∙ ap (λ (b : Counts). record {
+      view = view w (b .stored);
+      out = placed (howIn w .second) o (countsIn w .tally .asked) (questionBytes e);
+      questions = placed (not (howIn w .second)) (questionsPart w) (countsIn w .tally .asked) (questionBytes e);
+      tally = b .tally;
+    }) (s .counts)
 
--- from what a writer of a piece did with the cursor that the registers hold
-pub sends-of : (piece w o : List ℕ) (place k cursor : ℕ) (w′ o′ : List ℕ) → place ≡ wordAt (registersPart w) 2 → k ≡ wordAt (registersPart w) 8 → Sent (not (eqb k 0)) o place piece o′ cursor → SetsWord w 2 cursor w′
-    → Sends piece w o w′ o′
-sends-of piece w o place k cursor w′ o′ ep ek s h =
+-- what a writer did beside the tables keeps the workspace's length
+module _ (w : List ℕ) {on : Bool} {piece q : List ℕ} {place next : ℕ} (u : Sent on (midOf questionsPlace (length w - questionsPlace) w) place piece q next) where
+  abbrev beside : List ℕ
+  beside = putMid questionsPlace (length w - questionsPlace) w q
+
+  sent-length : length q ≡ length (midOf questionsPlace (length w - questionsPlace) w)
+  sent-length = ap length (u .part) ∙ length-placed on (midOf questionsPlace (length w - questionsPlace) w) place piece
+
+  pub sent-size : length beside ≡ length w
+  sent-size = same-len-mid questionsPlace (length w - questionsPlace) w q sent-length
+
+  pub sent-room : workspaceSize ≤ length w → (workspaceSize ≤ length beside) × (2 < wordCount)
+  sent-room h = (omega (arith, sent-size), omega arith)
+
+-- from what a writer of a piece did twice, in the record and beside the tables, with the cursor that the registers hold
+pub sends-of : (piece w o : List ℕ) (place k cursor next : ℕ) (q w′ o′ : List ℕ) → workspaceSize ≤ length w → place ≡ wordAt (registersPart w) 2 → k ≡ wordAt (registersPart w) 8
+    → Sent (not (eqb k 0)) o place piece o′ cursor → Sent (not (not (eqb k 0))) (midOf questionsPlace (length w - questionsPlace) w) place piece q next
+    → SetsWord (putMid questionsPlace (length w - questionsPlace) w q) 2 cursor w′ → Sends piece w o w′ o′
+sends-of piece w o place k cursor next q w′ o′ room ep ek s u h =
     let on : not (eqb k 0) ≡ howIn w .second = flag-read k ∙ ap boolOf ek ∙ second-word w in
     let at : place ≡ countsIn w .tally .asked = ep ∙ asked-word w in
+    let n = length w - questionsPlace in
+    let w₁ = putMid questionsPlace n w q in
+    let b : PutsQuestions w q w₁ = questions-back w q room (sent-length w u) in
     record {
-      aside = h .aside;
-      part = s .part ∙ ap₂ (λ (b : Bool) (n : ℕ). placed b o n piece) on at;
-      counts = asked-set h ∙ ap (λ (c : ℕ). withAsked c (countsIn w)) (s .cursor ∙ ap (λ (n : ℕ). advanced n (length piece)) at);
-      how = asked-how h;
+      kept = record {
+        holds = λ m. h .aside .holds m ∙ b .kept .holds m;
+        fit = λ m f. h .aside .fit m (b .kept .fit m f);
+        size = h .aside .size ∙ b .kept .size;
+      };
+      tables = h .aside .tables ∙ b .tables;
+      part = s .part ∙ ap₂ (λ (z : Bool) (i : ℕ). placed z o i piece) on at;
+      questions =
+          h .aside .questions
+          ∙ b .questions
+          ∙ u .part
+          ∙ ap (λ (l : List ℕ). placed (not (not (eqb k 0))) l place piece) (questions-lent w)
+          ∙ ap₂ (λ (z : Bool) (i : ℕ). placed (not z) (questionsPart w) i piece) on at;
+      counts = asked-set h ∙ ap (withAsked cursor) (counts-same w w₁ (b .registers)) ∙ ap (λ (c : ℕ). withAsked c (countsIn w)) (s .cursor ∙ ap (λ (i : ℕ). advanced i (length piece)) at);
+      how = asked-how h ∙ how-same w w₁ (b .registers);
     }
 
 -- the workspace is as large as before, and in order
 pub sends-room : (piece w o w′ o′ : List ℕ) (n : ℕ) → Sends piece w o w′ o′ → Fit w n → workspaceSize ≤ length w′
-sends-room piece w o w′ o′ n s f = omega (arith, s .aside .size, f .room)
+sends-room piece w o w′ o′ n s f = omega (arith, s .kept .size, f .room)
 
 pub sends-fit : (piece w o w′ o′ : List ℕ) (stored : ℕ) → Sends piece w o w′ o′ → stored ≡ wordAt (registersPart w) 0 → Fit w (countsIn w .stored) → Fit w′ stored
-sends-fit piece w o w′ o′ stored s e f = s .aside .fit stored (subst (Fit w) (sym (e ∙ stored-word w)) f)
+sends-fit piece w o w′ o′ stored s e f = s .kept .fit stored (subst (Fit w) (sym (e ∙ stored-word w)) f)
 
 -- ---- a question
 
@@ -81,7 +119,8 @@ sends-fit piece w o w′ o′ stored s e f = s .aside .fit stored (subst (Fit w)
 pub sends-asks : {g : How → Given} {κ : Asked} {q : Question κ} {y : Answer κ} (e : Entry) {w o w′ o′ : List ℕ} → ((h : How) (x : Scene) → Meant (g h) x (tables w) → x .world κ (cut κ q) ≡ y) → e ≡ (κ, (cut κ q, y))
     → Sends (questionBytes e) w o w′ o′ → Asks g κ q y w o w′ o′
 sends-asks e {w} {o} f i s = record {
-  aside = s .aside;
+  kept = s .kept;
+  tables = s .tables;
   answer = f;
   held = sends-held e s ∙ ap (λ (z : Entry). asked (howIn w .second) z (held w o (countsIn w))) i;
   stored = ap (λ (b : Counts). b .stored) (s .counts);
@@ -92,7 +131,7 @@ pub asks-as : {g : How → Given} {κ : Asked} {q : Question κ} {y z : Answer �
 asks-as {g} {κ} {q} {w = w} {o = o} {w′ = w′} {o′ = o′} e s = subst (λ (v : Answer κ). Asks g κ q v w o w′ o′) e s
 
 asked-ready : {g : How → Given} {κ : Asked} {q : Question κ} {y : Answer κ} {w o w′ o′ : List ℕ} (h : How) → Asks g κ q y w o w′ o′ → Ready (g h) w (countsIn w) → Ready (g h) w′ (countsIn w′)
-asked-ready {w = w} {w′ = w′} h s p = kept-ready (s .aside .tables) (subst (Fit w′) (sym (s .stored)) (s .aside .fit (countsIn w .stored) (p .fit))) p
+asked-ready {w = w} {w′ = w′} h s p = kept-ready (s .tables) (subst (Fit w′) (sym (s .stored)) (s .kept .fit (countsIn w .stored) (p .fit))) p
 
 -- it is asked, and then goes on with its answer
 pub asks-goes : {A : Type 0} {nodes symbols regions : List ℕ} {κ : Asked} {q : Question κ} {y : Answer κ} (k : Scene → Answer κ → Act A) {w o w₁ o₁ : List ℕ} {e : Ending A} {w′ o′ : List ℕ}
@@ -110,8 +149,8 @@ asks-goes {A} {nodes} {symbols} {regions} {κ} {q} {y} k {w} {o} {w₁} {o₁} {
           let there : asked (h .second) (κ, (cut κ q, y)) a ≡ held w₁ o₁ (countsIn w₁) = ap (λ (z : How). asked (z .second) (κ, (cut κ q, y)) a) (sym i) ∙ sym (s .held) in
           let step : hosted host (k x (x .world κ (cut κ q))) (asked (h .second) (κ, (cut κ q, x .world κ (cut κ q))) a) ≡ hosted host (k x y) (held w₁ o₁ (countsIn w₁)) =
           ap (λ (z : Answer κ). hosted host (k x z) (asked (h .second) (κ, (cut κ q, z)) a)) (s .answer h x m) ∙ ap (hosted host (k x y)) there in
-          subst (λ (z : End A × Held). Came z e (held w′ o′ (countsIn w′))) (sym step) (u .came x (subst (Meant (given nodes symbols regions h) x) (sym (s .aside .tables)) m));
-      tables = kept-on e (λ t. t ∙ s .aside .tables) (u .tables);
+          subst (λ (z : End A × Held). Came z e (held w′ o′ (countsIn w′))) (sym step) (u .came x (subst (Meant (given nodes symbols regions h) x) (sym (s .tables)) m));
+      tables = kept-on e (λ t. t ∙ s .tables) (u .tables);
     }
 
 -- ---- a load

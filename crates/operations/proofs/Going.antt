@@ -1,5 +1,5 @@
 -- Runs that go as the registers say, put together; and what is put in the registers, as such a run. Assumes nothing.
-use mathlib.Core.Path.{_≡_, refl, sym, ap, _∙_, subst}
+use mathlib.Core.Path.{_≡_, refl, sym, ap, ap₂, _∙_, subst}
 use mathlib.Core.Bool.{Bool, true, false}
 use mathlib.Core.List.{List}
 use mathlib.Core.Option.{Option, none, some}
@@ -29,7 +29,7 @@ use Rattle.operations.specs.Steps.{Gives, GivesShort, Tells}
 
 pub aside-held : {w w′ : List ℕ} (o : List ℕ) (a : Counts) → Aside w w′ → held w′ o a ≡ held w o a
 unfolding held
-aside-held o a h = ap (λ (v : View). record { view = v; out = o; tally = a .tally }) (h .holds (a .stored))
+aside-held o a h = ap₂ (λ (v : View) (q : List ℕ). record { view = v; out = o; questions = q; tally = a .tally }) (h .holds (a .stored)) (h .questions)
 
 pub aside-ready : {g : Given} {w w′ : List ℕ} {a : Counts} → Aside w w′ → Ready g w a → Ready g w′ a
 aside-ready {a = a} h p = kept-ready (h .tables) (h .fit (a .stored) (p .fit)) p

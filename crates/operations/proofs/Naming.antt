@@ -159,21 +159,21 @@ module _ (nodes symbols : List ℕ) (n name : ℕ) (w o w′ o′ : List ℕ) (a
 -- what the workspace was fit for it is after a question, and after two
 module _ {nodes symbols : List ℕ} {n : ℕ} {w o w₁ o₁ : List ℕ} {r₁ : Told} (e₁ : AsksAddress nodes symbols n w o r₁ w₁ o₁) where
   pub asked-room : workspaceSize ≤ length w → workspaceSize ≤ length w₁
-  asked-room h = rw (e₁ .asks [] .aside .size) h
+  asked-room h = rw (e₁ .asks [] .kept .size) h
 
   pub asked-symbols : SymbolsRead nodes symbols (tables w) → SymbolsRead nodes symbols (tables w₁)
-  asked-symbols s = subst (SymbolsRead nodes symbols) (sym (e₁ .asks [] .aside .tables)) s
+  asked-symbols s = subst (SymbolsRead nodes symbols) (sym (e₁ .asks [] .tables)) s
 
   module _ {w₂ o₂ : List ℕ} {r₂ : Told} (e₂ : AsksSize nodes symbols n w₁ o₁ r₂ w₂ o₂) where
     pub sized-room : workspaceSize ≤ length w → workspaceSize ≤ length w₂
-    sized-room h = rw (e₂ .asks [] .aside .size, e₁ .asks [] .aside .size) h
+    sized-room h = rw (e₂ .asks [] .kept .size, e₁ .asks [] .kept .size) h
 
     pub sized-fit : Fit w (countsIn w .stored) → Fit w₂ (countsIn w₂ .stored)
-    sized-fit f = subst (Fit w₂) (sym (e₂ .asks [] .stored ∙ e₁ .asks [] .stored)) (e₂ .asks [] .aside .fit _ (e₁ .asks [] .aside .fit _ f))
+    sized-fit f = subst (Fit w₂) (sym (e₂ .asks [] .stored ∙ e₁ .asks [] .stored)) (e₂ .asks [] .kept .fit _ (e₁ .asks [] .kept .fit _ f))
 
     pub sized-regions : {regions : List ℕ} → RegionsIndexed regions (regionsPart (tables w)) (howIn w .regions) → RegionsIndexed regions (regionsPart (tables w₂)) (howIn w₂ .regions)
     sized-regions {regions} h =
-        let t : tables w₂ ≡ tables w = e₂ .asks [] .aside .tables ∙ e₁ .asks [] .aside .tables in
+        let t : tables w₂ ≡ tables w = e₂ .asks [] .tables ∙ e₁ .asks [] .tables in
         let u : howIn w₂ ≡ howIn w = e₂ .asks [] .how ∙ e₁ .asks [] .how in
         rw (t, u) h
 

@@ -153,6 +153,7 @@ aside-aside p q = record {
   fit = λ n f. q .fit n (p .fit n f);
   size = q .size ∙ p .size;
   tables = q .tables ∙ p .tables;
+  questions = q .questions ∙ p .questions;
 }
 
 pub beside-beside : {w w₁ w₂ : List ℕ} → Beside w w₁ → Beside w₁ w₂ → Beside w w₂

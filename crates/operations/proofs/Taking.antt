@@ -29,7 +29,7 @@ use Rattle.definition.specs.Host.{hosted}
 use Rattle.definition.proofs.Hosts.{goOnFrom, hosted-bind}
 use Rattle.stream.specs.Pieces.{questionBytes, callEntry, callBytes}
 use Rattle.stream.proofs.QuestionLaws.{call-bytes}
-use Rattle.workspace.specs.Parts.{tables, notePart, registersPart}
+use Rattle.workspace.specs.Parts.{tables, notePart, registersPart, questionsPart}
 use Rattle.workspace.specs.Note.{pendingIn, withName, Open}
 use Rattle.workspace.specs.Registers.{wordAt}
 use Rattle.workspace.specs.Types.{declaredAt}
@@ -182,6 +182,7 @@ nothing-taken {w = w} f = record {
   fit = λ stored h. h;
   size = refl;
   registers = refl;
+  questions = refl;
   note = λ xs e. no-more xs e;
 }
 
@@ -230,6 +231,7 @@ module _ {b : List ℕ} {n k : ℕ} (w : List ℕ) (p : k ≡ kindOf b n) where
         fit = λ stored h. c₂ .fit stored (c₁ .fit stored h);
         size = c₂ .size ∙ c₁ .size;
         registers = c₂ .registers ∙ c₁ .registers;
+        questions = c₂ .questions ∙ c₁ .questions;
         note = λ xs h. record {
           names = xs ++ (name ∷ []);
           noted = ap (λ (z : View). z .pending) (c₂ .holds 0 ∙ ap (noting name) (c₁ .holds 0)) ∙ ap (withName name) h;
@@ -262,6 +264,7 @@ pub record SoFar (b : List ℕ) (first e : ℕ) (w : List ℕ) (i : ℕ) (w′ :
   pub fit : (stored : ℕ) → Fit w stored → Fit w′ stored
   pub size : length w′ ≡ length w
   pub registers : registersPart w′ ≡ registersPart w
+  pub questions : questionsPart w′ ≡ questionsPart w
 
 pub so-far-start : {b : List ℕ} {first e : ℕ} {w₀ w : List ℕ} → FineArgs b first e 0 → Changes w₀ (leaving (some [])) w → SoFar b first e w first w
 unfolding view
@@ -276,6 +279,7 @@ so-far-start f c = record {
   fit = λ stored h. h;
   size = refl;
   registers = refl;
+  questions = refl;
 }
 
 undone-next : {b : List ℕ} {e i : ℕ} (E : Env) {was : ℕ → View} (w′ w″ : List ℕ) {ts : Trees} → i < e → KidsAt b i e ts → ((stored : ℕ) → was stored ≡ takeViews E (looks E ts) (view w′ stored))
@@ -322,6 +326,7 @@ module _ {b : List ℕ} {first e i : ℕ} {w w′ : List ℕ} (s : SoFar b first
           fit = λ stored h. t .fit stored (s .fit stored h);
           size = t .size ∙ s .size;
           registers = t .registers ∙ s .registers;
+          questions = t .questions ∙ s .questions;
         }
 
   pub so-far-end : {w₀ : List ℕ} → e ≤ i → Changes w₀ (leaving (some [])) w → TakesAll b first e w₀ w′
@@ -333,6 +338,7 @@ module _ {b : List ℕ} {first e i : ℕ} {w w′ : List ℕ} (s : SoFar b first
     fit = λ stored h. s .fit stored (c .fit stored h);
     size = s .size ∙ c .size;
     registers = s .registers ∙ c .registers;
+    questions = s .questions ∙ c .questions;
   }
 
 -- ---- the definition's taking
@@ -402,7 +408,7 @@ unfolding held
 take-runs {g} {n} {e} {w} {w′} {o} {a} {ts} t h p = record {
   ready = kept-ready (t .tables) (t .fit (a .stored) (p .fit)) p;
   came = λ x m. take-act-hosted (x .world) (g .how .second) (x .env) (looks (x .env) ts) (held w o a)
-      ∙ ap (λ (v : View). (gave nothing, record { view = v; out = o; tally = a .tally })) (sym (t .holds (x .env) (m .declared) ts h (a .stored)));
+      ∙ ap₂ (λ (v : View) (q : List ℕ). (gave nothing, record { view = v; out = o; questions = q; tally = a .tally })) (sym (t .holds (x .env) (m .declared) ts h (a .stored))) (sym (t .questions));
   tables = t .tables;
 }
 

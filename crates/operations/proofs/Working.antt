@@ -1,5 +1,5 @@
 -- What an operation does to the workspace alone, as a run on the code's host: bytes stored, at an address, through a pointer, as a field. Assumes nothing.
-use mathlib.Core.Path.{_≡_, refl, sym, ap, _∙_, subst}
+use mathlib.Core.Path.{_≡_, refl, sym, ap, ap₂, _∙_, subst}
 use mathlib.Core.Bool.{Bool, true, false}
 use mathlib.Core.List.{List, [], _∷_}
 use mathlib.Core.Option.{none}
@@ -65,7 +65,7 @@ pokes-works {w} {w₁} {w′} {n} address bs d s = record {
         let a = withStored n (countsIn w) in
         let there : Runs (g h) (λ x. pokes address bs) w o (countsIn w) (ended tt) w₁ o a = record {
           ready = kept-ready (d .tables) (d .fit) p;
-          came = λ x m. pokes-hosted (x .world) (g h .how .second) bs address (held w o (countsIn w)) ∙ ap (λ (z : View). (gave tt, record { view = z; out = o; tally = countsIn w .tally })) (sym (d .holds));
+          came = λ x m. pokes-hosted (x .world) (g h .how .second) bs address (held w o (countsIn w)) ∙ ap₂ (λ (z : View) (q : List ℕ). (gave tt, record { view = z; out = o; questions = q; tally = countsIn w .tally })) (sym (d .holds)) (sym (d .questions));
           tables = d .tables;
         } in
         subst (λ (b : Counts). Runs (g h) (λ x. pokes address bs) w o (countsIn w) (ended tt) w′ o b) (sym (stored-set s ∙ ap (withStored n) (does-counts d))) (aside-after (s .aside) there);

@@ -1,6 +1,6 @@
 -- What the operations ensure that ask the world: loads, and names that may be symbols. Assumes nothing.
 use mathlib.Core.Path.{_≡_}
-use mathlib.Core.Bool.{Bool, true}
+use mathlib.Core.Bool.{Bool, true, not}
 use mathlib.Core.List.{List}
 use mathlib.Core.Option.{none, some}
 use Prim.Native.Nat.{ℕ}
@@ -19,8 +19,8 @@ use Rattle.definition.specs.Term.{nothing}
 use Rattle.definition.specs.Evaluate.{Env, widthIn, typeOr, look, addressVal, assignVal}
 use Rattle.stream.specs.Stream.{placed, advanced}
 use Rattle.stream.specs.Pieces.{optional}
-use Rattle.workspace.specs.Parts.{tables}
-use Rattle.workspace.specs.Post.{Aside}
+use Rattle.workspace.specs.Parts.{tables, questionsPart}
+use Rattle.workspace.specs.Post.{Kept}
 use Rattle.hosting.specs.declared.How.{How}
 use Rattle.operations.specs.declared.names.Told.{Told}
 use Rattle.hosting.specs.Scene.{Given, given, Scene, Meant}
@@ -33,18 +33,21 @@ use Rattle.operations.specs.Going.{Goes}
 
 -- bytes are sent to the stream of questions
 pub record Sends (bytes w o w′ o′ : List ℕ) : Type 0 where
-  pub aside : Aside w w′
+  pub kept : Kept w w′
+  pub tables : tables w′ ≡ tables w
   pub part : o′ ≡ placed (howIn w .second) o (countsIn w .tally .asked) bytes
+  pub questions : questionsPart w′ ≡ placed (not (howIn w .second)) (questionsPart w) (countsIn w .tally .asked) bytes
   pub counts : countsIn w′ ≡ withAsked (advanced (countsIn w .tally .asked) (length bytes)) (countsIn w)
   pub how : howIn w′ ≡ howIn w
 
 -- a question is asked: what the scene's world answers, and what is held then
 pub record Asks (g : How → Given) (κ : Asked) (q : Question κ) (y : Answer κ) (w o w′ o′ : List ℕ) : Type 0 where
-  pub aside : Aside w w′
+  pub kept : Kept w w′
   pub answer : (h : How) (x : Scene) → Meant (g h) x (tables w) → x .world κ (cut κ q) ≡ y
   pub held : held w′ o′ (countsIn w′) ≡ asked (howIn w .second) (κ, (cut κ q, y)) (held w o (countsIn w))
   pub stored : countsIn w′ .stored ≡ countsIn w .stored
   pub how : howIn w′ ≡ howIn w
+  pub tables : tables w′ ≡ tables w
 
 -- ---- loads
 

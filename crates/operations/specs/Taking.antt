@@ -15,7 +15,7 @@ use Rattle.files.specs.Program.{Tree, Trees}
 use Rattle.definition.specs.Act.{Act, done, leave, _>>=_}
 use Rattle.definition.specs.Term.{Term, Terms, noTerms, moreTerms, kid, kids, rest, nothing}
 use Rattle.definition.specs.Evaluate.{Env, look, looks, followed, takenBy, takeAll}
-use Rattle.workspace.specs.Parts.{part, tables, notePart, registersPart}
+use Rattle.workspace.specs.Parts.{part, tables, notePart, registersPart, questionsPart}
 use Rattle.workspace.specs.Note.{pendingIn, Open}
 use Rattle.value.specs.Encoding.{val, valBytes, valueSize, Whole}
 use Rattle.workspace.specs.Types.{declaredAt}
@@ -77,6 +77,7 @@ pub record Takes (nodes : List ℕ) (n : ℕ) (w w′ : List ℕ) : Type 0 where
   pub fit : (stored : ℕ) → Fit w stored → Fit w′ stored
   pub size : length w′ ≡ length w
   pub registers : registersPart w′ ≡ registersPart w
+  pub questions : questionsPart w′ ≡ questionsPart w
   pub note : (xs : List ℕ) → pendingIn (notePart w) ≡ some xs → OneName xs (pendingIn (notePart w′))
 
 -- by those from node n up to node e, in a new note
@@ -86,6 +87,7 @@ pub record TakesAll (nodes : List ℕ) (n e : ℕ) (w w′ : List ℕ) : Type 0 
   pub fit : (stored : ℕ) → Fit w stored → Fit w′ stored
   pub size : length w′ ≡ length w
   pub registers : registersPart w′ ≡ registersPart w
+  pub questions : questionsPart w′ ≡ questionsPart w
 
 -- ---- the call
 

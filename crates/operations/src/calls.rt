@@ -6,6 +6,7 @@ use crate::results::SECOND;
 use crate::values::unknown;
 use files::nodes;
 use value::Val;
+use workspace::QUESTIONS;
 use workspace::note;
 use workspace::registers;
 use workspace::types;
@@ -50,6 +51,8 @@ fn follow(nodes: &[u8], ws: &mut [u8], out: &mut [u8], vals: &[u8], count: usize
     let asked = registers::word(ws, ASKED);
     let second = registers::word(ws, SECOND) != 0;
     let cursor = stream::question_call(out, asked, second, name, address, 1, vals, count);
+    let kept = &mut ws[QUESTIONS..];
+    stream::question_call(kept, asked, !second, name, address, 1, vals, count);
     registers::set_word(ws, ASKED, cursor);
 }
 

@@ -15,6 +15,7 @@ use index::symbols;
 use stream::Symbol;
 use value::Ty;
 use value::Val;
+use workspace::QUESTIONS;
 use workspace::registers;
 use workspace::types;
 use workspace::types::Declaration;
@@ -62,7 +63,7 @@ fn answered(answer: Maybe) -> Told
     }
 }
 
-// The question is written with its answer.
+// The question is written with its answer: in the first pass beside the tables, if it fits there, in the second in the record.
 fn tell(ws: &mut [u8], out: &mut [u8], kind: Symbol, name: usize, answer: Told)
     requires { ⌜ workspaceSize ≤ length (now ws) ⌝ }
     ensures { λ _. ⌜ Sends (questionBytes (symbolEntry kind name (optional (answer .known) (answer .number)))) (now (ws .entry)) (now (out .entry)) (now (ws .exit)) (now (out .exit)) ⌝ }
@@ -73,6 +74,15 @@ fn tell(ws: &mut [u8], out: &mut [u8], kind: Symbol, name: usize, answer: Told)
         out,
         asked,
         second,
+        kind,
+        name,
+        answer.known,
+        answer.number,
+    );
+    stream::question_symbol(
+        &mut ws[QUESTIONS..],
+        asked,
+        !second,
         kind,
         name,
         answer.known,

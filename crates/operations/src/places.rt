@@ -19,6 +19,7 @@ use memory::Stored;
 use spelling::Pointee;
 use value::Ty;
 use value::Val;
+use workspace::QUESTIONS;
 use workspace::registers;
 use workspace::types;
 ghost use mathlib.Core.Path.{_≡_};
@@ -95,7 +96,7 @@ fn bytes_of(bits: u32) -> usize
     if n == 0 { 1 } else { n }
 }
 
-// `read` is asked, and written with the bytes that it answers.
+// `read` is asked, and written with the bytes that it answers: in the first pass beside the tables, if it fits there, in the second in the record.
 fn ask_read(ws: &mut [u8], out: &mut [u8], address: u64, size: usize, image: Image)
     requires { ⌜ workspaceSize ≤ length (now ws) ⌝ }
     requires { ⌜ image .count ≤ 8 ⌝ }
@@ -107,6 +108,15 @@ fn ask_read(ws: &mut [u8], out: &mut [u8], address: u64, size: usize, image: Ima
         out,
         asked,
         second,
+        address,
+        size as u64,
+        image.count as u64,
+        image.number,
+    );
+    stream::question_read(
+        &mut ws[QUESTIONS..],
+        asked,
+        !second,
         address,
         size as u64,
         image.count as u64,

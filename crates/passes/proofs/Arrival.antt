@@ -16,6 +16,7 @@ use Rattle.definition.specs.State.{Out}
 use Rattle.definition.specs.Statements as statements
 use Rattle.definition.specs.Walk.{variablesAtStart, variablesAtEnd}
 use Rattle.definition.specs.World.{worldOf}
+use Rattle.definition.specs.Record.{questionsBody}
 use Rattle.definition.specs.Run.{acts, start, stopOf, ranOf, ranIn, ran, addressLimit}
 use Rattle.definition.proofs.Hosts.{Alike}
 use Rattle.definition.proofs.Walked.{Stopped, finished}
@@ -42,8 +43,9 @@ use Rattle.hosting.proofs.Running.{kept-on}
 use Rattle.hosting.proofs.Reasons.{why-some, why-none}
 use Rattle.setup.specs.Heads.{Typed}
 use Rattle.walk.specs.Units.{Balanced}
-use Rattle.passes.specs.Passing.{startCounts, Passed, PassedIf, Passes, walkedOf, outOf, WalksOf, fullOf}
+use Rattle.passes.specs.Passing.{startCounts, BesideIf, Passed, PassedIf, Passes, walkedOf, outOf, WalksOf, fullOf}
 use Rattle.passes.proofs.Simulation.{Like, ends-alike}
+use Rattle.passes.proofs.Streams.{questions-short}
 
 -- ---- a call's limits
 
@@ -150,6 +152,7 @@ module _ (routine world call : List ℕ) (second : Bool) (old : List ℕ) where
           questions = k .asked;
         };
         part = k .part;
+        beside = k .beside;
       }
   came p (short (some y)) w out a l c f = absurd (never-short y (sym (l .end) ∙ ap (λ (z : End statements.Stop × Held). z .0) c))
   came p (short none) w out a l c f = subst (λ (m : Overlay Cell). addressLimit < length m) (l .state .memory) c
@@ -160,11 +163,11 @@ module _ (routine world call : List ℕ) (second : Bool) (old : List ℕ) where
   kept-fit (short (some y)) g w a h = h .fit
   kept-fit (short none) g w a h = tt
 
-  pub walk-arrives : (x : Indexed) (w₀ w₁ w₂ out : List ℕ) (depth steps : ℕ) (r : Walked) → length old < most → (steps ≡ limitsOf call .steps) × (depth ≡ limitsOf call .depth) → Tabled routine world w₀ x → Started routine call w₀ w₁
+  pub walk-arrives : (x : Indexed) (w₀ w₁ w₂ out : List ℕ) (depth steps : ℕ) (r : Walked) → length old < most → length w₀ < 2 ^ 64 → (steps ≡ limitsOf call .steps) × (depth ≡ limitsOf call .depth) → Tabled routine world w₀ x → Started routine call w₀ w₁
       → WalksAll (givenOf routine world (howOf depth (x .regions) second)) (body routine 4) (body routine 5) (x .facts) steps w₁ old (startCounts steps) r w₂ out
       → WalksOf routine world call second old w₀ (stopEnd (limitsOf call .steps) (r .stop)) w₂ out (r .at)
   unfolding outOf acts start held
-  walk-arrives x w₀ w₁ w₂ out depth steps r room l t s walks =
+  walk-arrives x w₀ w₁ w₂ out depth steps r room long l t s walks =
       let P = programOf routine in
       let g = givenOf routine world (howOf (limitsOf call .depth) (x .regions) second) in
       let e = stopEnd (limitsOf call .steps) (r .stop) in
@@ -174,7 +177,7 @@ module _ (routine world call : List ℕ) (second : Bool) (old : List ℕ) where
       let here = runs .came (sceneOf routine world (limitsOf call .depth)) (subst (Meant g (sceneOf routine world (limitsOf call .depth))) (sym (s .tables)) (t .meant (limitsOf call .depth) second)) in
       let h = held w₁ old (startCounts (limitsOf call .steps)) in
       record {
-        comes = came _ e w₂ out (r .at) (ends-alike second old (worldOf routine world) (acts P (limitsOf call)) (limitsOf call .steps) vs h room (s .holds) refl refl) here (kept-fit e g w₂ (r .at) (runs .ready));
+        comes = came _ e w₂ out (r .at) (ends-alike second old (worldOf routine world) (acts P (limitsOf call)) (limitsOf call .steps) vs h room (questions-short w₁ (omega (arith, s .size))) (s .holds) refl refl) here (kept-fit e g w₂ (r .at) (runs .ready));
         tables = kept-on e (λ z. z ∙ s .tables) (runs .tables);
       }
 
@@ -209,6 +212,7 @@ module _ (routine world call : List ℕ) (second : Bool) (old w₀ : List ℕ) w
           questions = h .questions;
         };
         part = p .part;
+        beside = subst (λ (q : List ℕ). BesideIf second q (a .tally .asked) (questionsBody ((outOf routine world call) .log))) (sym (f .questions)) (p .beside);
       }
 
   whole-pass : (e : Ending statements.Stop) (w w′ out : List ℕ) (a : Counts) → EndsWith e → WalksOf routine world call second old w₀ e w out a → Finished routine w w′ → Passes (ran routine world call) second old w₀ e w′ out a

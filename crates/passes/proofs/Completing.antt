@@ -24,7 +24,7 @@ use Rattle.hosting.specs.declared.Tally.{Tally}
 use Rattle.hosting.specs.declared.Counts.{Counts}
 use Rattle.hosting.specs.declared.Stop.{Stop}
 use Rattle.hosting.specs.Walking.{stopEnd}
-use Rattle.passes.specs.Passing.{Holds, SecondPassed}
+use Rattle.passes.specs.Passing.{Holds, QuestionsPut}
 use Rattle.passes.specs.Writing.{Exact, PutsStop, PutsFixed, Laid, PutsBodies, Ended, Completes}
 use Rattle.workspace.proofs.CopyLaws.{length-body}
 use Rattle.passes.proofs.Buffer.{length-memory, length-stored}
@@ -58,13 +58,13 @@ few-units routine world call w a ok h =
     let c = accepted.call call (accepted.run routine world call ok .call) in
     omega (arith, walks (worldOf routine world) (programOf routine) (limitsOf call) .most, h .entered, h .recorded, c .steps)
 
--- the second pass has room
+-- the questions have room
 pub questions-room : (R : Ran) (limit : ℕ) (x : Stop) (w : List ℕ) (a : Counts) (l : Lengths) (n : ℕ) → Ended R limit x w a → Exact R l n
     → (99 ≤ 99 + l .steps + l .variables + l .memory) × (99 + l .steps + l .variables + l .memory + a .tally .asked ≤ n)
 questions-room R limit x w a l n f b = (omega arith, omega (arith, b .questions, b .in-buffer, f .holds .questions .cursor))
 
--- and what it leaves is what the lengths say
-pub laid : (routine world call b₀ b₁ w : List ℕ) (q : ℕ) (a : Counts) (l : Lengths) → refusal routine world call ≡ 0 → SecondPassed (ran routine world call) b₀ q b₁ w a → Exact (ran routine world call) l (length b₀)
+-- and what is left then is what the lengths say
+pub laid : (routine world call b₀ b₁ w : List ℕ) (q : ℕ) (a : Counts) (l : Lengths) → refusal routine world call ≡ 0 → QuestionsPut (ran routine world call) b₀ q b₁ w a → Exact (ran routine world call) l (length b₀)
     → Laid w a l (length b₁)
 laid routine world call b₀ b₁ w q a l ok s e =
     let h = s .holds in
@@ -90,7 +90,7 @@ module _ (R : Ran) (limit : ℕ) (x : Stop) (w : List ℕ) (a : Counts) (f : End
       ap₂ (λ (vs : Overlay Val) (ms : Overlay Cell). inPlace vs ms (countsBody (a′ .tally .entered) (a′ .tally .steps))) (h .variables) (h .memory)
       ∙ ap₂ (λ (n m : ℕ). inPlace (R .variables) (R .memory) (countsBody n m)) (h .entered) (h .recorded)
 
-  pub completes : (steps : ℕ) → steps ≡ limit → SecondPassed R b₀ (99 + l .steps + l .variables + l .memory) b₁ w′ a′ → PutsBodies steps x w′ a′ l b₁ b₂ → Completes R b₀ b₂
+  pub completes : (steps : ℕ) → steps ≡ limit → QuestionsPut R b₀ (99 + l .steps + l .variables + l .memory) b₁ w′ a′ → PutsBodies steps x w′ a′ l b₁ b₂ → Completes R b₀ b₂
   completes steps hs s p = record {
     written = λ old h.
         let v = 99 + l .steps in

@@ -3,7 +3,7 @@ use mathlib.Core.Path.{_≡_, refl, sym, ap, _∙_, subst}
 use mathlib.Core.Bool.{false}
 use mathlib.Core.List.{List, []}
 use mathlib.Core.Option.{none, some}
-use Prim.Native.Nat.{ℕ, _≤_, _<_}
+use Prim.Native.Nat.{ℕ, _^_, _≤_, _<_}
 use native.Mathlib.Omega.{arith}
 use lib.ListN.{length}
 use Rattle.value.specs.declared.Val.{Val}
@@ -35,6 +35,7 @@ use Rattle.passes.specs.Passing.{startCounts}
 use Rattle.passes.specs.Evaluating.{EvaluatedIf, Evaluates}
 use Rattle.passes.proofs.Simulation.{Like, ends-alike}
 use Rattle.passes.proofs.Buffer.{length-stored}
+use Rattle.passes.proofs.Streams.{questions-short}
 
 -- ---- what the evaluation needs
 
@@ -70,10 +71,10 @@ module _ (old : List ℕ) (o : Out Val) where
   came p (short (some y)) g w out a l c f = held-few w out a p (stopped y) l c (f .fit)
   came p (short none) g w out a l c f = subst (λ (m : Overlay Cell). addressLimit < length m) (l .state .memory) c
 
-pub evaluates : (routine : List ℕ) (n count : ℕ) (w w′ old out nodes : List ℕ) (a : Counts) (r : Evaluated) → length old < most → nodes ≡ body routine 3 → a ≡ startCounts 10000
+pub evaluates : (routine : List ℕ) (n count : ℕ) (w w′ old out nodes : List ℕ) (a : Counts) (r : Evaluated) → length old < most → length w < 2 ^ 64 → nodes ≡ body routine 3 → a ≡ startCounts 10000
     → Stands (body routine 3) n (treeAt (body routine 3) n) → ConstantTabled routine w count → Evals (given nodes [] [] (howOf 0 count false)) n w old a r w′ out → Evaluates (constantRun routine n) (endOf (r .outcome))
 unfolding constantRun held
-evaluates routine n count w w′ old out nodes a r room p q h t v =
+evaluates routine n count w w′ old out nodes a r room long p q h t v =
     let u : Evals (constantGiven routine count) n w old (startCounts 10000) r w′ out = rw (p, q) at v in
     let runs = u .runs (treeAt (body routine 3) n) h in
     let x : Scene = record { env = constantEnv (programOf routine); world = nothing } in
@@ -81,5 +82,5 @@ evaluates routine n count w w′ old out nodes a r room p q h t v =
     let s = held w old (startCounts 10000) in
     record {
       comes = came old (constantRun routine n) _ (endOf (r .outcome)) (constantGiven routine count) w′ out (r .at)
-          (ends-alike false old nothing (eval (look (constantEnv (programOf routine)) (treeAt (body routine 3) n))) 10000 [] s room (t .holds) refl refl) here (runs .ready);
+          (ends-alike false old nothing (eval (look (constantEnv (programOf routine)) (treeAt (body routine 3) n))) 10000 [] s room (questions-short w long) (t .holds) refl refl) here (runs .ready);
     }

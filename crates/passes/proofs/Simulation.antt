@@ -1,6 +1,6 @@
 -- The code's host simulates the definition's: what the lent bytes stand for is the definition's state, and the stream that is on holds what was recorded,
 -- or asked, so far. Assumes nothing.
-use mathlib.Core.Path.{_≡_, refl, sym, ap, subst}
+use mathlib.Core.Path.{_≡_, refl, sym, ap, subst, _∙_}
 use mathlib.Core.Bool.{Bool, true, false}
 use mathlib.Core.List.{List, [], _∷_, _++_}
 use Prim.Native.Nat.{ℕ, zero, suc, _<_}
@@ -17,11 +17,11 @@ use Rattle.definition.specs.Host.{hosted, Logged, definitionHost, Simulates}
 use Rattle.definition.proofs.Hosts.{run-hosted, Alike, simulated}
 use Rattle.stream.specs.Stream.{placed, advanced, most, Counted, Streamed}
 use Rattle.stream.specs.Pieces.{questionBytes, stepBytes}
-use Rattle.stream.proofs.StreamLaws.{placed-off, counted-start, counted-more, streamed-start, streamed-more, writes-more}
+use Rattle.stream.proofs.StreamLaws.{placed-off, length-placed, counted-start, counted-more, streamed-start, streamed-more, writes-more}
 use Rattle.hosting.specs.declared.Tally.{Tally}
 use Rattle.hosting.specs.Held.{Held, asked, emitted, paidTally, replyOf, nextOf, codeHost}
 use Rattle.hosting.specs.Setting.{freshView}
-use Rattle.passes.specs.Passing.{noneYet, cursorIn, eitherOf}
+use Rattle.passes.specs.Passing.{noneYet, cursorIn, eitherOf, BesideIf}
 
 -- ---- one more entry in a body
 
@@ -74,6 +74,7 @@ pub record Like (second : Bool) (old : List ℕ) (s : Held) (r : Logged) : Type 
   pub recorded : Counted (s .tally .recorded) (stepsBody (r .0 .steps))
   pub asked : Counted (s .tally .asked) (questionsBody (r .1))
   pub part : Streamed old (s .out) (cursorIn second (s .tally)) (sent second r)
+  pub beside : BesideIf second (s .questions) (s .tally .asked) (questionsBody (r .1))
 
 -- ---- a question, and a step
 
@@ -85,6 +86,19 @@ asked-part true old e s r p =
     (streamed-more (questionBytes e) (p .part))
 asked-part false old e s r p =
     subst (λ (o : List ℕ). Streamed old o (s .tally .recorded) (stepsBody (r .0 .steps))) (sym (placed-off (s .out) (s .tally .asked) (questionBytes e))) (p .part)
+
+asked-beside : (second : Bool) (old : List ℕ) (e : Entry) (s : Held) (r : Logged) → Like second old s r
+    → BesideIf second (asked second e s .questions) (asked second e s .tally .asked) (questionsBody (r .1 ++ (e ∷ [])))
+unfolding asked
+asked-beside true old e s r p = tt
+asked-beside false old e s r p =
+    let b = p .beside in
+    record {
+      before = b .before;
+      size = length-placed true (s .questions) (s .tally .asked) (questionBytes e) ∙ b .size;
+      streamed = subst (Streamed (b .before) (placed true (s .questions) (s .tally .asked) (questionBytes e)) (advanced (s .tally .asked) (length (questionBytes e)))) (sym (questions-more (r .1) e))
+          (streamed-more (questionBytes e) (b .streamed));
+    }
 
 emitted-part : (second : Bool) (old : List ℕ) (e : Step) (s : Held) (r : Logged) → Like second old s r
     → Streamed old (emitted second e s .out) (cursorIn second (emitted second e s .tally)) (eitherOf second (stepsBody (r .0 .steps ++ (e ∷ []))) (questionsBody (r .1)))
@@ -106,6 +120,7 @@ module _ (second : Bool) (old : List ℕ) where
     recorded = p .recorded;
     asked = subst (Counted (advanced (s .tally .asked) (length (questionBytes e)))) (sym (questions-more (r .1) e)) (counted-more (questionBytes e) (p .asked));
     part = asked-part second old e s r p;
+    beside = asked-beside second old e s r p;
   }
 
   replies : (s : Held) (r : Logged) → Like second old s r → (w : World) (o : Op) → replyOf s o ≡ definitionHost w .reply r o
@@ -121,12 +136,12 @@ module _ (second : Bool) (old : List ℕ) where
 
   nexts : (s : Held) (r : Logged) → Like second old s r → (w : World) (o : Op) → Like second old (nextOf second s o) (definitionHost w .next r o)
   unfolding definitionHost emitted
-  nexts s r p w (peekOp a) = record { variables = p .variables; memory = p .memory; pending = p .pending; units = p .units; recorded = p .recorded; asked = p .asked; part = p .part }
-  nexts s r p w (pokeOp a c) = record { variables = p .variables; memory = ap (store a c) (p .memory); pending = p .pending; units = p .units; recorded = p .recorded; asked = p .asked; part = p .part }
-  nexts s r p w (getOp x) = record { variables = p .variables; memory = p .memory; pending = p .pending; units = p .units; recorded = p .recorded; asked = p .asked; part = p .part }
-  nexts s r p w (setOp x v) = record { variables = ap (store x v) (p .variables); memory = p .memory; pending = p .pending; units = p .units; recorded = p .recorded; asked = p .asked; part = p .part }
-  nexts s r p w pendingOp = record { variables = p .variables; memory = p .memory; pending = p .pending; units = p .units; recorded = p .recorded; asked = p .asked; part = p .part }
-  nexts s r p w (leaveOp q) = record { variables = p .variables; memory = p .memory; pending = refl; units = p .units; recorded = p .recorded; asked = p .asked; part = p .part }
+  nexts s r p w (peekOp a) = record { variables = p .variables; memory = p .memory; pending = p .pending; units = p .units; recorded = p .recorded; asked = p .asked; part = p .part; beside = p .beside }
+  nexts s r p w (pokeOp a c) = record { variables = p .variables; memory = ap (store a c) (p .memory); pending = p .pending; units = p .units; recorded = p .recorded; asked = p .asked; part = p .part; beside = p .beside }
+  nexts s r p w (getOp x) = record { variables = p .variables; memory = p .memory; pending = p .pending; units = p .units; recorded = p .recorded; asked = p .asked; part = p .part; beside = p .beside }
+  nexts s r p w (setOp x v) = record { variables = ap (store x v) (p .variables); memory = p .memory; pending = p .pending; units = p .units; recorded = p .recorded; asked = p .asked; part = p .part; beside = p .beside }
+  nexts s r p w pendingOp = record { variables = p .variables; memory = p .memory; pending = p .pending; units = p .units; recorded = p .recorded; asked = p .asked; part = p .part; beside = p .beside }
+  nexts s r p w (leaveOp q) = record { variables = p .variables; memory = p .memory; pending = refl; units = p .units; recorded = p .recorded; asked = p .asked; part = p .part; beside = p .beside }
   nexts s r p w (spendOp b) =
       let n = s .tally .left in
       record {
@@ -137,6 +152,7 @@ module _ (second : Bool) (old : List ℕ) where
         recorded = subst (λ (k : ℕ). Counted k (stepsBody (r .0 .steps))) (sym (paid-recorded n b (s .tally))) (p .recorded);
         asked = subst (λ (k : ℕ). Counted k (questionsBody (r .1))) (sym (paid-asked n b (s .tally))) (p .asked);
         part = subst (λ (k : ℕ). Streamed old (s .out) k (sent second r)) (sym (paid-cursor second n b (s .tally))) (p .part);
+        beside = subst (λ (k : ℕ). BesideIf second (s .questions) k (questionsBody (r .1))) (sym (paid-asked n b (s .tally))) (p .beside);
       }
   nexts s r p w (emitOp e) = record {
     variables = p .variables;
@@ -146,6 +162,7 @@ module _ (second : Bool) (old : List ℕ) where
     recorded = subst (Counted (advanced (s .tally .recorded) (length (stepBytes (stepFields e))))) (sym (steps-more (r .0 .steps) e)) (counted-more (stepBytes (stepFields e)) (p .recorded));
     asked = p .asked;
     part = emitted-part second old e s r p;
+    beside = p .beside;
   }
 
   pub simulates : (w : World) → Simulates (codeHost w second) (definitionHost w) (Like second old)
@@ -164,9 +181,13 @@ module _ (second : Bool) (old : List ℕ) where
   start-part true h limit vs = streamed-start old h
   start-part false h limit vs = streamed-start old h
 
-  start-like : (limit : ℕ) (vs : Overlay Val) (s : Held) → length old < most → s .view ≡ freshView vs → s .out ≡ old → s .tally ≡ noneYet limit → Like second old s (fresh limit vs, [])
+  start-beside : (b : Bool) (q : List ℕ) → length q < most → BesideIf b q 0 []
+  start-beside true q h = tt
+  start-beside false q h = record { before = q; size = refl; streamed = streamed-start q h }
+
+  start-like : (limit : ℕ) (vs : Overlay Val) (s : Held) → length old < most → length (s .questions) < most → s .view ≡ freshView vs → s .out ≡ old → s .tally ≡ noneYet limit → Like second old s (fresh limit vs, [])
   unfolding stepsBody questionsBody
-  start-like limit vs s h v o t = record {
+  start-like limit vs s h k v o t = record {
     variables = ap (λ x. x .variables) v;
     memory = ap (λ x. x .memory) v;
     pending = ap (λ x. x .pending) v;
@@ -174,11 +195,12 @@ module _ (second : Bool) (old : List ℕ) where
     recorded = subst (λ (x : Tally). Counted (x .recorded) []) (sym t) counted-start;
     asked = subst (λ (x : Tally). Counted (x .asked) []) (sym t) counted-start;
     part = rw (o, t) (start-part second h limit vs);
+    beside = subst (λ (x : Tally). BesideIf second (s .questions) (x .asked) []) (sym t) (start-beside second (s .questions) k);
   }
 
   -- the run on the code's host ends as the definition's, and what is held then stands for the definition's state
-  pub ends-alike : {A : Type 0} (w : World) (m : Act A) (limit : ℕ) (vs : Overlay Val) (s : Held) → length old < most → s .view ≡ freshView vs → s .out ≡ old → s .tally ≡ noneYet limit
+  pub ends-alike : {A : Type 0} (w : World) (m : Act A) (limit : ℕ) (vs : Overlay Val) (s : Held) → length old < most → length (s .questions) < most → s .view ≡ freshView vs → s .out ≡ old → s .tally ≡ noneYet limit
       → let o = run w m (fresh limit vs) in Alike (Like second old) (hosted (codeHost w second) m s) (o .end, (o .after, o .log))
-  ends-alike {A} w m limit vs s h v o t =
+  ends-alike {A} w m limit vs s h k v o t =
       subst (λ (y : End A × Logged). Alike (Like second old) (hosted (codeHost w second) m s) y) (run-hosted w m (fresh limit vs) [])
-      (simulated (simulates w) m s (fresh limit vs, []) (start-like limit vs s h v o t))
+      (simulated (simulates w) m s (fresh limit vs, []) (start-like limit vs s h k v o t))

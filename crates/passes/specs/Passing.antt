@@ -13,7 +13,7 @@ use Rattle.definition.specs.Statements.{Stop}
 use Rattle.definition.specs.World.{worldOf}
 use Rattle.definition.specs.Record.{Ran, stepsBody, questionsBody, recordBytes}
 use Rattle.definition.specs.Run.{acts, start, stopOf, addressLimit}
-use Rattle.workspace.specs.Parts.{tables}
+use Rattle.workspace.specs.Parts.{tables, questionsPart}
 use Rattle.workspace.specs.View.{view, Fit}
 use Rattle.stream.specs.Stream.{Counted, Streamed}
 use Rattle.hosting.specs.declared.Tally.{Tally}
@@ -43,6 +43,21 @@ abbrev pub eitherOf : {A : Type 0} → Bool → A → A → A
 eitherOf false steps questions = steps
 eitherOf true steps questions = questions
 
+-- bytes were sent up to a cursor, and what was there before them became what is there now
+pub record Beside (now : List ℕ) (at : ℕ) (bytes : List ℕ) : Type 0 where
+  pub before : List ℕ
+  pub size : length now ≡ length before
+  pub streamed : Streamed before now at bytes
+
+-- the first pass keeps the questions beside the tables
+abbrev pub BesideIf : Bool → List ℕ → ℕ → List ℕ → Type 0
+BesideIf false now at bytes = Beside now at bytes
+BesideIf true now at bytes = Unit
+
+-- the workspace w with the counts a keeps the questions of the run R, if they fit
+abbrev pub Keeps : Ran → List ℕ → Counts → Type 0
+Keeps R w a = Beside (questionsPart w) (a .tally .asked) (questionsBody (R .questions))
+
 -- the workspace w with the counts a holds what the run R came to
 pub record Holds (R : Ran) (w : List ℕ) (a : Counts) : Type 0 where
   pub entered : a .tally .entered ≡ R .entered
@@ -58,6 +73,7 @@ pub record Passed (R : Ran) (second : Bool) (old : List ℕ) (s : Stop) (w out :
   pub stop : R .stop ≡ s
   pub holds : Holds R w a
   pub part : Streamed old out (cursorIn second (a .tally)) (eitherOf second (stepsBody (R .steps)) (questionsBody (R .questions)))
+  pub beside : BesideIf second (questionsPart w) (a .tally .asked) (questionsBody (R .questions))
 
 -- a pass ended; or the run has written too many addresses
 abbrev pub PassedIf : Ran → Bool → List ℕ → Ending Stop → List ℕ → List ℕ → Counts → Type 0
@@ -107,6 +123,7 @@ fullOf (Halted at target) = false
 pub record FirstPassed (R : Ran) (record₀ : List ℕ) (s : Stop) (record₁ w : List ℕ) (a : Counts) : Type 0 where
   pub stop : R .stop ≡ s
   pub holds : Holds R w a
+  pub keeps : Keeps R w a
   pub written : length (recordBytes R) ≤ length record₀ → record₁ ≡ sets record₀ stepsPlace (stepsBody (R .steps))
 
 abbrev pub FirstPassedIf : Ran → List ℕ → Ending Stop → List ℕ → List ℕ → Counts → Type 0
@@ -118,6 +135,6 @@ pub record FirstPasses (R : Ran) (record₀ w₀ : List ℕ) (e : Ending Stop) (
   pub tables : Kept e (tables w ≡ tables w₀)
 
 -- its questions stand in the buffer too, from place q on
-pub record SecondPassed (R : Ran) (record₀ : List ℕ) (q : ℕ) (record₁ w : List ℕ) (a : Counts) : Type 0 where
+pub record QuestionsPut (R : Ran) (record₀ : List ℕ) (q : ℕ) (record₁ w : List ℕ) (a : Counts) : Type 0 where
   pub holds : Holds R w a
   pub written : record₁ ≡ sets record₀ q (questionsBody (R .questions))

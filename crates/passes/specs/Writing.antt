@@ -17,7 +17,7 @@ use Rattle.hosting.specs.declared.Counts.{Counts}
 use Rattle.hosting.specs.declared.Stop as code
 use Rattle.hosting.specs.Ending.{ended}
 use Rattle.hosting.specs.Walking.{stopEnd}
-use Rattle.passes.specs.Passing.{Holds}
+use Rattle.passes.specs.Passing.{Holds, Keeps}
 
 -- the lengths by the counts a and the workspace w: those of the two streams are their cursors
 pub record Measured (w : List ℕ) (a : Counts) (l : Lengths) : Type 0 where
@@ -68,6 +68,7 @@ pub record PutsBodies (limit : ℕ) (stop : code.Stop) (w : List ℕ) (a : Count
 -- the run R ended in the workspace w by the stop x, with so many units at most
 pub record Ended (R : Ran) (limit : ℕ) (x : code.Stop) (w : List ℕ) (a : Counts) : Type 0 where
   pub holds : Holds R w a
+  pub keeps : Keeps R w a
   pub stop : stopEnd limit x ≡ ended (R .stop)
 
 -- if the steps stood in the buffer, and then the old bytes, the record does

@@ -1,4 +1,5 @@
-// What writes a record: the walk over a routine, twice, and the bodies. The first pass writes the steps and counts the questions' bytes, the second writes the questions.
+// What writes a record: the walk over a routine, and the bodies. The first pass writes the steps, counts the questions' bytes and keeps the questions beside the
+// tables. If they do not fit there, a second pass writes them.
 pub mod bodies;
 pub mod evaluation;
 
@@ -16,7 +17,7 @@ ghost use Rattle.stream.specs.Stream.{most};
 ghost use Rattle.hosting.specs.Setting.{Tabled, givenOf, howOf};
 ghost use Rattle.hosting.specs.Walking.{WalksAll, stopEnd};
 ghost use Rattle.stream.specs.Bodies.{stepsPlace};
-ghost use Rattle.passes.specs.Passing.{startCounts, fullOf, Holds, Passes, WalksOf, FirstPasses, SecondPassed};
+ghost use Rattle.passes.specs.Passing.{startCounts, fullOf, Holds, Passes, WalksOf, Keeps, FirstPasses, QuestionsPut};
 ghost use Rattle.passes.specs.Writing.{Ended, Exact, Completes};
 use bodies::STEPS;
 use files::call::Limits;
@@ -29,6 +30,7 @@ use hosting::Stop;
 use hosting::Tally;
 use hosting::Walked;
 use stream::Lengths;
+use workspace::QUESTIONS;
 
 // The limits of a call.
 fn limits_of(call: &[u8]) -> Limits
@@ -178,8 +180,8 @@ pub fn first_pass(
     pass(routine, world, call, ws, &mut buffer[start..], index, false)
 }
 
-// The second pass, from place q on, over the tables of the first; there is none where no question was asked.
-fn second_pass(
+// The questions, from place q on: those that the first pass kept, else by a second pass over its tables.
+fn put_questions(
     routine: &[u8],
     world: &[u8],
     call: &[u8],
@@ -192,19 +194,20 @@ fn second_pass(
     requires { ⌜ refusal (now routine) (now world) (now call) ≡ 0 ⌝ }
     requires { ⌜ workspaceSize ≤ length (now ws) ⌝ }
     requires { ⌜ Tabled (now routine) (now world) (now ws) index ⌝ }
-    requires { ⌜ Holds (ran (now routine) (now world) (now call)) (now ws) at ⌝ }
+    requires { ⌜ Holds (ran (now routine) (now world) (now call)) (now ws) at × Keeps (ran (now routine) (now world) (now call)) (now ws) at ⌝ }
     requires { ⌜ (stepsPlace ≤ q) × (q + at .tally .asked ≤ length (now buffer)) ⌝ }
-    ensures { λ r. ⌜ SecondPassed (ran (now (routine .entry)) (now (world .entry)) (now (call .entry))) (now (buffer .entry)) q (now (buffer .exit)) (now (ws .exit)) r ⌝ }
+    ensures { λ r. ⌜ QuestionsPut (ran (now (routine .entry)) (now (world .entry)) (now (call .entry))) (now (buffer .entry)) q (now (buffer .exit)) (now (ws .exit)) r ⌝ }
 {
     let tally = at.tally;
-    if tally.asked == 0 {
+    if tally.asked <= (ws.len() - QUESTIONS) as u64 {
+        layout::copy(&ws[QUESTIONS..], &mut buffer[q..], tally.asked as usize);
         return at;
     }
     let r = pass(routine, world, call, ws, &mut buffer[q..], index, true);
     r.at
 }
 
-// What is left to write after the first pass: the questions, by the second pass, then the other bodies and the pairs.
+// What is left to write after the first pass: the questions, then the other bodies and the pairs.
 pub fn put_rest(
     routine: &[u8],
     world: &[u8],
@@ -226,6 +229,6 @@ pub fn put_rest(
     let q = bodies::STEPS + l.steps as usize + l.variables as usize + l.memory as usize;
     let stop = r.stop;
     let first = r.at;
-    let at = second_pass(routine, world, call, buffer, ws, index, q, first);
+    let at = put_questions(routine, world, call, buffer, ws, index, q, first);
     bodies::put_bodies(buffer, ws, stop, limits.steps as u64, at, l);
 }

@@ -4,11 +4,11 @@ use mathlib.Core.List.{List}
 use mathlib.Core.Option.{none}
 use Prim.Native.Nat.{ℕ, _+_, _≤_}
 use native.Mathlib.Omega.{arith}
-use lib.ListN.{length, drop, replicate, length-replicate, length-drop}
+use lib.ListN.{length, take, drop, replicate, length-replicate, length-drop}
 use lib.Seq.{length-take-le}
 use borrow.Rule.Slice.PartMut.{putMid, midOf, same-len-mid, drop-put}
-use Rattle.layout.proofs.StoreLaws.{mid-put, all-take, all-drop}
-use Rattle.workspace.specs.Parts.{part, workspaceSize, framePlace, frameSize, noteSize, registersSize, tablesPlace, declaredSize, framePart, notePart, tables, declaredPart}
+use Rattle.layout.proofs.StoreLaws.{mid-put, part-take, all-take, all-drop}
+use Rattle.workspace.specs.Parts.{part, workspaceSize, framePlace, frameSize, noteSize, registersSize, tablesPlace, tablesSize, declaredSize, framePart, notePart, tables, declaredPart}
 use Rattle.workspace.specs.Types.{declaredAt}
 use Rattle.workspace.specs.View.{view, fresh, Fit}
 use Rattle.workspace.proofs.PartLaws.{part-part}
@@ -44,7 +44,7 @@ module _ (k : ℕ) (w s : List ℕ) (least : lent ≤ k) (most : framePlace + k 
 
   pub cleared-names : lent + declaredSize ≤ k → (x : ℕ) → declaredAt (tables after) x ≡ none
   unfolding tables declaredPart
-  cleared-names l x = declared-none (tables after) x (zero-part lent declaredSize l)
+  cleared-names l x = declared-none (tables after) x (subst Zeros (sym (part-take 0 declaredSize tablesSize (drop tablesPlace after) (omega arith))) (zero-part lent declaredSize l))
 
 pub empties : (w s : List ℕ) → workspaceSize ≤ length w → s ≡ replicate (length (midOf framePlace lent w)) 0 → Empties w (putMid framePlace lent w s)
 unfolding tables
@@ -53,6 +53,6 @@ empties w s room e =
     record {
       holds = f .0;
       fit = f .1;
-      tables = drop-put framePlace tablesPlace w s (omega arith) (omega arith) (bytes lent w s (omega arith) (omega arith) room e);
+      tables = ap (take tablesSize) (drop-put framePlace tablesPlace w s (omega arith) (omega arith) (bytes lent w s (omega arith) (omega arith) room e));
       size = cleared-size lent w s (omega arith) (omega arith) room e;
     }

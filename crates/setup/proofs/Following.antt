@@ -26,7 +26,8 @@ changes-then {u} f g h e p q = record {
   fit = λ s l. q .fit s (p .fit s l);
   size = q .size ∙ p .size;
   registers = q .registers ∙ p .registers;
+  questions = q .questions ∙ p .questions;
 }
 
 pub changes-none : (w : List ℕ) (f : View → View) → ((x : View) → x ≡ f x) → Changes w f w
-changes-none w f e = record { holds = λ s. e (view w s); tables = refl; fit = λ s h. h; size = refl; registers = refl }
+changes-none w f e = record { holds = λ s. e (view w s); tables = refl; fit = λ s h. h; size = refl; registers = refl; questions = refl }

@@ -123,4 +123,5 @@ finished {r} {head} {w₀} {w} h typed e s =
       fit = k .fit;
       tables = k .tables;
       size = k .size;
+      questions = k .questions;
     }

@@ -120,13 +120,13 @@ module _ (w : List ℕ) (x : ℕ) (t : Ty) {r : Slot} (e : r ≡ slotAs (find x 
   unfolding view
   added-set v q =
       let o = set-is (find x (variablesIn (framePart w))) v (sym q ∙ e) in
-      record { holds = λ s. rw o; tables = refl; fit = λ s h. h; size = refl; registers = refl }
+      record { holds = λ s. rw o; tables = refl; fit = λ s h. h; size = refl; registers = refl; questions = refl }
 
   pub added-unset : {v : Val} {w′ : List ℕ} → r ≡ Unset → v ≡ unknownVal t → Changes w (setting x v) w′ → Changes w (adding x t) w′
   unfolding view
   added-unset {v} q p c =
       let o = unset-is (find x (variablesIn (framePart w))) (sym q ∙ e) in
-      record { holds = λ s. c .holds s ∙ rw (o, p); tables = c .tables; fit = c .fit; size = c .size; registers = c .registers }
+      record { holds = λ s. c .holds s ∙ rw (o, p); tables = c .tables; fit = c .fit; size = c .size; registers = c .registers; questions = c .questions }
 
 -- ---- an argument
 

@@ -11,7 +11,7 @@ use index::blocks::fill_blocks;
 use index::regions::fill_regions;
 use index::symbols::fill_symbols;
 use workspace::BLOCKS;
-use workspace::END;
+use workspace::QUESTIONS;
 use workspace::REGIONS;
 use workspace::SYMBOLS;
 
@@ -37,5 +37,5 @@ pub fn set_blocks(blocks: &[u8], ws: &mut [u8]) -> usize
     requires { ⌜ (Blocks (now blocks)) × (workspaceSize ≤ length (now ws)) ⌝ }
     ensures { λ r. ⌜ IndexesBlocks (now (blocks .entry)) (now (ws .entry)) (now (ws .exit)) r ⌝ }
 {
-    fill_blocks(blocks, &mut ws[BLOCKS..END])
+    fill_blocks(blocks, &mut ws[BLOCKS..QUESTIONS])
 }

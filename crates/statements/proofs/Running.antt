@@ -12,7 +12,7 @@ use Rattle.definition.specs.Record.{stepFields}
 use Rattle.definition.specs.Statements as statements
 use Rattle.definition.proofs.Hosts.{hosted-try}
 use Rattle.index.specs.Answers.{optionOf}
-use Rattle.workspace.specs.Parts.{notePart}
+use Rattle.workspace.specs.Parts.{notePart, questionsPart}
 use Rattle.workspace.specs.Note.{pendingIn}
 use Rattle.workspace.specs.View.{View, view, Changes, leaving}
 use Rattle.stream.specs.Stream.{Sent}
@@ -75,8 +75,8 @@ pub leave-runs : {A : Type 0} {g : Given} {p : Option (List ℕ)} {m : Scene →
 unfolding hosted codeHost held
 leave-runs {A} {g} {p} {m} {w₀} {w₁} {o₀} {a₀} {e} {w} {o} {a} c r = record {
   ready = r .ready;
-  came = λ x h. subst (λ (v : View). Came (hosted (hostIn g x) (m x) (record { view = v; out = o₀; tally = a₀ .tally })) e (held w o a)) (c .holds (a₀ .stored))
-      (r .came x (kept-meant w₀ w₁ (c .tables) h));
+  came = λ x h. subst (λ (s : Held). Came (hosted (hostIn g x) (m x) s) e (held w o a))
+      (ap₂ (λ (v : View) (q : List ℕ). record { view = v; out = o₀; questions = q; tally = a₀ .tally }) (c .holds (a₀ .stored)) (c .questions)) (r .came x (kept-meant w₀ w₁ (c .tables) h));
   tables = kept-on e (λ t. t ∙ c .tables) (r .tables);
 }
 
@@ -100,7 +100,7 @@ module _ (g : Given) (site : Site) (e : End statements.Outcome) where
       → emitted (g .how .second) (stepIn w) (held w o a) ≡ held w o′ (withRecorded c a)
   unfolding held emitted
   step-held w o o′ a c s =
-      ap₂ (λ (out : List ℕ) (n : ℕ). record { view = view w (a .stored); out = out; tally = record { recorded = n; asked = a .tally .asked; left = a .tally .left; entered = a .tally .entered; steps = a .tally .steps } })
+      ap₂ (λ (out : List ℕ) (n : ℕ). record { view = view w (a .stored); out = out; questions = questionsPart w; tally = record { recorded = n; asked = a .tally .asked; left = a .tally .left; entered = a .tally .entered; steps = a .tally .steps } })
       (sym (s .part)) (sym (s .cursor))
 
   hosted-step : (x : Scene) (w o : List ℕ) (a : Counts) → hosted (hostIn g x) (concluding site e) (held w o a) ≡ (gave (outcome .1), emitted (g .how .second) (stepIn w) (held w o a))

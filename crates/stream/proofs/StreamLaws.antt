@@ -5,7 +5,7 @@ use mathlib.Core.List.{List, [], _∷_, _++_, map, append-assoc, append-nil}
 use Prim.Native.Nat.{ℕ, _+_, _-_, _≤_, _<_}
 use native.Mathlib.Omega.{arith}
 use lib.ListN.{length, drop, length-append, length-drop}
-use lib.Seq.{sets, sets-eq, take-at, drop-drop, drop-append-add}
+use lib.Seq.{sets, sets-eq, length-sets, take-at, drop-drop, drop-append-add}
 use lib.Dec.{leb}
 use borrow.Author.Tests.{le-leb, lt-leb, leb-true, leb-false}
 use Rattle.layout.specs.Format.{Format, writes}
@@ -20,6 +20,14 @@ placed-off out at piece = refl
 pub placed-fits : (out : List ℕ) (at : ℕ) (piece : List ℕ) → at + length piece ≤ length out → placed true out at piece ≡ sets out at piece
 unfolding placed
 placed-fits out at piece h = rw (le-leb (at + length piece) (length out) h)
+
+pub length-placed : (on : Bool) (out : List ℕ) (at : ℕ) (piece : List ℕ) → length (placed on out at piece) ≡ length out
+unfolding placed
+length-placed on out at piece = go (on && leb (at + length piece) (length out))
+  where
+    go : (b : Bool) → length (cond b (sets out at piece) out) ≡ length out
+    go true = length-sets out at piece
+    go false = refl
 
 -- the code: whether a piece of n bytes goes in is b
 pub piece-room : (on : Bool) (at n l : ℕ) (b : Bool) → b ≡ (on && leb (at + n) l) → b ≡ true → at + n ≤ l

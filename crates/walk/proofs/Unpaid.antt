@@ -54,6 +54,7 @@ unfolding held
 held-same w o a t s = λ i. record {
   view = held w o a .view;
   out = o;
+  questions = held w o a .questions;
   tally = record { recorded = a .tally .recorded; asked = a .tally .asked; left = s .left i; entered = s .entered i; steps = s .steps i };
 }
 

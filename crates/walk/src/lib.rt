@@ -229,7 +229,7 @@ fn place_of(ws: &[u8], block: usize) -> Place
     requires { ⌜ BlockTold (blocksPart (tables (now ws))) block ⌝ }
     ensures { λ r. ⌜ Placed (blocksPart (tables (now (ws .entry)))) block r ⌝ }
 {
-    index::blocks::block(&ws[workspace::BLOCKS..workspace::END], block)
+    index::blocks::block(&ws[workspace::BLOCKS..workspace::QUESTIONS], block)
 }
 
 // One turn of the walk: a unit is spent, and what it buys is done.

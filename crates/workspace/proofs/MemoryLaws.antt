@@ -11,7 +11,7 @@ use Rattle.memory.specs.Entries.{entries}
 use Rattle.memory.specs.declared.Stored.{Stored}
 use Rattle.memory.specs.declared.Stored.the-variants.{Count, Full}
 use Rattle.memory.specs.Post.{StoresAll}
-use Rattle.workspace.specs.Parts.{workspaceSize, memorySize, framePlace, frameSize, notePlace, noteSize, registersPlace, registersSize, tablesPlace, memoryPart, framePart, notePart, registersPart, tables}
+use Rattle.workspace.specs.Parts.{workspaceSize, memorySize, framePlace, frameSize, notePlace, noteSize, registersPlace, registersSize, tablesPlace, tablesSize, questionsPlace, memoryPart, framePart, notePart, registersPart, tables, questionsPart}
 use Rattle.workspace.specs.View.{view, Fit}
 use Rattle.workspace.specs.Post.{StoresCells}
 use Rattle.workspace.proofs.PartLaws.{drop-back, part-back}
@@ -45,7 +45,11 @@ module _ (w s : List ℕ) (room : workspaceSize ≤ length w) (size : length s �
 
   tables-back : tables back ≡ tables w
   unfolding tables
-  tables-back = drop-back tablesPlace memorySize w back (omega arith) behind
+  tables-back = part-back tablesPlace tablesSize memorySize w back (omega arith) behind
+
+  questions-back : questionsPart back ≡ questionsPart w
+  unfolding questionsPart
+  questions-back = drop-back questionsPlace memorySize w back (omega arith) behind
 
   length-back : length back ≡ length w
   length-back = length-append s (drop memorySize w) ∙ ap₂ _+_ size (length-drop memorySize w) ∙ omega arith
@@ -58,6 +62,7 @@ module _ (w s : List ℕ) (room : workspaceSize ≤ length w) (size : length s �
     fit = record { room = omega (arith, length-back); sorted = rw memory-back (h .sorted); few = rw note-back (fit .few) };
     size = length-back;
     registers = registers-back;
+    questions = questions-back;
   }
   stored-back n address cells fit Full h = (h, length-back, registers-back)
 

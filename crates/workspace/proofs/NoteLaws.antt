@@ -199,6 +199,7 @@ note-twice w vs us i j room h l =
       tables = b .tables ∙ a .tables;
       size = b .size ∙ a .size;
       registers = b .registers ∙ a .registers;
+      questions = b .questions ∙ a .questions;
     }
 
 more-few : (x : ℕ) (p : Option (List ℕ)) → Open p → Few (withName x p)

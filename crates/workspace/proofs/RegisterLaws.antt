@@ -11,7 +11,7 @@ use Rattle.layout.proofs.NumberLaws.{length-le, num-le}
 use Rattle.layout.proofs.StoreLaws.{take-sets, drop-sets, number-above}
 use Rattle.value.specs.declared.Val.{Val}
 use Rattle.memory.proofs.OverlayLaws.{below, equal, above, compared}
-use Rattle.workspace.specs.Parts.{workspaceSize, memorySize, framePlace, frameSize, notePlace, noteSize, registersPlace, registersSize, tablesPlace, memoryPart, framePart, notePart, registersPart, tables}
+use Rattle.workspace.specs.Parts.{workspaceSize, memorySize, framePlace, frameSize, notePlace, noteSize, registersPlace, registersSize, tablesPlace, tablesSize, questionsPlace, memoryPart, framePart, notePart, registersPart, tables, questionsPart}
 use Rattle.value.specs.Encoding.{valBytes, valAt, Whole}
 use Rattle.workspace.specs.Registers.{wordCount, valuesPlace, wordAt, valueAt}
 use Rattle.workspace.specs.View.{view}
@@ -103,7 +103,7 @@ module _ (w vs : List ℕ) (i : ℕ) (room : workspaceSize ≤ length w) (fits :
   registers-stored = part-sets registersPlace registersSize i w vs (omega arith) fits
 
   aside-stored : Aside w w′
-  unfolding view memoryPart framePart notePart tables
+  unfolding view memoryPart framePart notePart tables questionsPart
   aside-stored =
       let m : memoryPart w′ ≡ memoryPart w = take-sets vs w (registersPlace + i) memorySize (omega arith) in
       let f : framePart w′ ≡ framePart w = part-above framePlace frameSize (registersPlace + i) w vs (omega arith) in
@@ -113,7 +113,8 @@ module _ (w vs : List ℕ) (i : ℕ) (room : workspaceSize ≤ length w) (fits :
         holds = λ n. rw (f, p, m);
         fit = λ n h. record { room = omega (arith, l); sorted = rw m (h .sorted); few = rw p (h .few) };
         size = l;
-        tables = drop-sets vs w (registersPlace + i) tablesPlace (omega arith);
+        tables = part-below tablesPlace tablesSize (registersPlace + i) w vs (omega arith);
+        questions = drop-sets vs w (registersPlace + i) questionsPlace (omega arith);
       }
 
 pub word-set : (w w′ : List ℕ) (k x : ℕ) → workspaceSize ≤ length w → k < wordCount → x < 2 ^ 64 → w′ ≡ putNumber w (registersPlace + k * 8) 8 x → SetsWord w k x w′

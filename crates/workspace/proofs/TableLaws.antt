@@ -13,7 +13,7 @@ use Rattle.layout.proofs.StoreLaws.{take-sets, number-above}
 use Rattle.value.specs.declared.Ty.{Ty}
 use Rattle.spelling.specs.declared.Pointee.the-variants.{Of, NoPointer}
 use Rattle.memory.proofs.OverlayLaws.{below, equal, above, compared}
-use Rattle.workspace.specs.Parts.{part, workspaceSize, memorySize, framePlace, frameSize, notePlace, noteSize, tablesPlace, memoryPart, framePart, notePart, tables, declaredSize, typesPlace, typesSize, symbolsPlace, symbolsSize, regionsPlace, regionsSize, blocksPlace, blocksSize, declaredPart, typesPart, symbolsPart, regionsPart, blocksPart}
+use Rattle.workspace.specs.Parts.{part, workspaceSize, memorySize, framePlace, frameSize, notePlace, noteSize, tablesPlace, tablesSize, memoryPart, framePart, notePart, tables, declaredSize, typesPlace, typesSize, symbolsPlace, symbolsSize, regionsPlace, regionsSize, blocksPlace, blocksSize, declaredPart, typesPart, symbolsPart, regionsPart, blocksPart}
 use Rattle.workspace.specs.Variables.{nameLimit}
 use Rattle.workspace.specs.Types.{typeLimit, codeOf, codeIf, typeOfCode, typeIfCode, declaredAt, typeAt, pointeeAt, Coded, CodedIf}
 use Rattle.workspace.specs.View.{view}
@@ -39,17 +39,17 @@ kept w w′ e size =
 -- ---- codes read
 
 module _ (w : List ℕ) where
-  table-number : (i k : ℕ) → numberAt (tables w) i k ≡ numberAt w (tablesPlace + i) k
-  unfolding tables numberAt
-  table-number i k = ap (λ (l : List ℕ). num (take k l)) (drop-drop i tablesPlace w)
+  table-number : (i k : ℕ) → i + k ≤ tablesSize → numberAt (tables w) i k ≡ numberAt w (tablesPlace + i) k
+  unfolding tables
+  table-number i k h = number-part w tablesPlace tablesSize i k h
 
   declared-number : (x : ℕ) → x < nameLimit → numberAt (declaredPart (tables w)) x 1 ≡ numberAt w (tablesPlace + x) 1
   unfolding declaredPart
-  declared-number x h = number-part (tables w) 0 declaredSize x 1 (omega arith) ∙ rw zero-add (table-number x 1)
+  declared-number x h = number-part (tables w) 0 declaredSize x 1 (omega arith) ∙ rw zero-add (table-number x 1 (omega arith))
 
   types-number : (d : ℕ) → d < typesSize → numberAt (typesPart (tables w)) d 1 ≡ numberAt w (tablesPlace + (typesPlace + d)) 1
   unfolding typesPart
-  types-number d h = number-part (tables w) typesPlace typesSize d 1 (omega arith) ∙ table-number (typesPlace + d) 1
+  types-number d h = number-part (tables w) typesPlace typesSize d 1 (omega arith) ∙ table-number (typesPlace + d) 1 (omega arith)
 
   pub reads-undeclared : (x c : ℕ) → x < nameLimit → c ≡ numberAt w (tablesPlace + x) 1 → c ≡ 0 → Nothing ≡ declarationAs (declaredAt (tables w) x)
   unfolding declaredAt
@@ -107,16 +107,16 @@ module _ (t vs : List ℕ) (i : ℕ) where
 
 -- stored in the tables of a workspace
 module _ (w vs : List ℕ) (i : ℕ) (room : workspaceSize ≤ length w) where
-  tables-stored : tables (sets w (tablesPlace + i) vs) ≡ sets (tables w) i vs
+  tables-stored : i + length vs ≤ tablesSize → tables (sets w (tablesPlace + i) vs) ≡ sets (tables w) i vs
   unfolding tables
-  tables-stored = drop-sets-in vs w tablesPlace i (omega arith)
+  tables-stored h = part-sets tablesPlace tablesSize i w vs (omega arith) h
 
   tables-kept : Kept w (sets w (tablesPlace + i) vs)
   tables-kept = kept w (sets w (tablesPlace + i) vs) (take-sets vs w (tablesPlace + i) tablesPlace (omega arith)) (length-sets w (tablesPlace + i) vs)
 
-pub length-tables : (w : List ℕ) → length (tables w) ≡ length w - tablesPlace
+length-tables : (w : List ℕ) → workspaceSize ≤ length w → length (tables w) ≡ tablesSize
 unfolding tables
-length-tables w = length-drop tablesPlace w
+length-tables w h = length-take-le tablesSize (drop tablesPlace w) (rw length-drop (omega arith))
 
 -- ---- a name declared
 
@@ -144,8 +144,8 @@ pub declares : (w w′ : List ℕ) (x c : ℕ) (t : Ty) → workspaceSize ≤ le
 unfolding putNumber typeAt pointeeAt codeIf
 declares w w′ x c t room few h p e =
     let s = sets w (tablesPlace + x) (le 1 c) in
-    let b : tables s ≡ sets (tables w) x (le 1 c) = tables-stored w (le 1 c) x room in
-    let l : declaredSize ≤ length (tables w) = omega (arith, length-tables w) in
+    let b : tables s ≡ sets (tables w) x (le 1 c) = tables-stored w (le 1 c) x room (omega arith) in
+    let l : declaredSize ≤ length (tables w) = omega (arith, length-tables w room) in
     let k : typesPart (tables s) ≡ typesPart (tables w) = ap typesPart b ∙ before-types (tables w) (le 1 c) x (omega arith) in
     let small : c < 256 = omega (arith, p, code-small t h) in
     rw e (record {
@@ -204,8 +204,8 @@ puts-type w v w′ i c d t o room few h g p q e f =
     let j : tablesPlace + typesPlace + i * 2 ≡ tablesPlace + (typesPlace + i * 2) = omega arith in
     let s = sets w (tablesPlace + (typesPlace + i * 2)) vs in
     let z : w′ ≡ s = f ∙ ap₂ (λ (l : List ℕ) (k : ℕ). sets l k (le 1 d)) e (add-one (tablesPlace + typesPlace + i * 2)) ∙ ap (λ (k : ℕ). sets w k vs) j in
-    let b : tables s ≡ sets (tables w) (typesPlace + i * 2) vs = tables-stored w vs (typesPlace + i * 2) room in
-    let l : symbolsPlace ≤ length (tables w) = omega (arith, length-tables w) in
+    let b : tables s ≡ sets (tables w) (typesPlace + i * 2) vs = tables-stored w vs (typesPlace + i * 2) room (omega arith) in
+    let l : symbolsPlace ≤ length (tables w) = omega (arith, length-tables w room) in
     rw z (record {
       kept = tables-kept w vs (typesPlace + i * 2) room;
       here = ap (λ (y : List ℕ). typeAt y i) b ∙ type-here (tables w) i c d l few (omega (arith, p, code-small t h)) ∙ ap typeOfCode p ∙ code-back t h;

@@ -11,7 +11,7 @@ use Rattle.layout.proofs.StoreLaws.{take-sets, drop-sets}
 use Rattle.value.specs.declared.Val.{Val}
 use Rattle.memory.specs.Overlay.{Overlay, Cell}
 use Rattle.memory.specs.Entries.{entries}
-use Rattle.workspace.specs.Parts.{workspaceSize, memorySize, framePlace, frameSize, notePlace, noteSize, registersPlace, registersSize, tablesPlace, memoryPart, framePart, notePart, registersPart, tables}
+use Rattle.workspace.specs.Parts.{workspaceSize, memorySize, framePlace, frameSize, notePlace, noteSize, registersPlace, registersSize, tablesPlace, tablesSize, questionsPlace, memoryPart, framePart, notePart, registersPart, tables, questionsPart}
 use Rattle.value.specs.Encoding.{valBytes, Whole}
 use Rattle.workspace.specs.Variables.{slotSize, nameLimit, variablesIn}
 use Rattle.workspace.specs.Note.{pendingIn, Few}
@@ -28,6 +28,7 @@ pub record Becomes (w w′ f p : List ℕ) : Type 0 where
   pub tables : tables w′ ≡ tables w
   pub size : length w′ ≡ length w
   pub registers : registersPart w′ ≡ registersPart w
+  pub questions : questionsPart w′ ≡ questionsPart w
 
 pub length-frame : (w : List ℕ) → workspaceSize ≤ length w → length (framePart w) ≡ frameSize
 unfolding framePart
@@ -39,25 +40,27 @@ length-note w h = length-take-le noteSize (drop notePlace w) (rw length-drop (om
 
 module _ (w vs : List ℕ) (i : ℕ) (room : workspaceSize ≤ length w) where
   pub frame-stored : i + length vs ≤ frameSize → Becomes w (sets w (framePlace + i) vs) (sets (framePart w) i vs) (notePart w)
-  unfolding memoryPart framePart notePart registersPart tables
+  unfolding memoryPart framePart notePart registersPart tables questionsPart
   frame-stored h = record {
     memory = take-sets vs w (framePlace + i) memorySize (omega arith);
     frame = part-sets framePlace frameSize i w vs (omega arith) h;
     note = part-below notePlace noteSize (framePlace + i) w vs (omega arith);
-    tables = drop-sets vs w (framePlace + i) tablesPlace (omega arith);
+    tables = part-below tablesPlace tablesSize (framePlace + i) w vs (omega arith);
     size = length-sets w (framePlace + i) vs;
     registers = part-below registersPlace registersSize (framePlace + i) w vs (omega arith);
+    questions = drop-sets vs w (framePlace + i) questionsPlace (omega arith);
   }
 
   pub note-stored : i + length vs ≤ noteSize → Becomes w (sets w (notePlace + i) vs) (framePart w) (sets (notePart w) i vs)
-  unfolding memoryPart framePart notePart registersPart tables
+  unfolding memoryPart framePart notePart registersPart tables questionsPart
   note-stored h = record {
     memory = take-sets vs w (notePlace + i) memorySize (omega arith);
     frame = part-above framePlace frameSize (notePlace + i) w vs (omega arith);
     note = part-sets notePlace noteSize i w vs (omega arith) h;
-    tables = drop-sets vs w (notePlace + i) tablesPlace (omega arith);
+    tables = part-below tablesPlace tablesSize (notePlace + i) w vs (omega arith);
     size = length-sets w (notePlace + i) vs;
     registers = part-below registersPlace registersSize (notePlace + i) w vs (omega arith);
+    questions = drop-sets vs w (notePlace + i) questionsPlace (omega arith);
   }
 
 -- what is done to the variables and the note is done to the view
@@ -71,6 +74,7 @@ changes w w′ f p F b e few = record {
   fit = λ n h. record { room = omega (arith, h .room, b .size); sorted = rw (b .memory) (h .sorted); few = rw (b .note) (few (h .few)) };
   size = b .size;
   registers = b .registers;
+  questions = b .questions;
 }
 
 -- a variable is set, its flag and then its value

@@ -1,5 +1,5 @@
 -- The parts of a lent workspace while a routine runs: what is written to memory, the variables, the pending note, the registers, then tables made once at
--- the start. Assumes nothing.
+-- the start, and questions. Assumes nothing.
 use mathlib.Core.List.{List}
 use Prim.Native.Nat.{ℕ, _+_}
 use lib.ListN.{take, drop}
@@ -57,9 +57,6 @@ registersPart w = part registersPlace registersSize w
 abbrev pub tablesPlace : ℕ
 tablesPlace = registersPlace + registersSize
 
-unfoldable pub tables : List ℕ → List ℕ
-tables w = drop tablesPlace w
-
 -- where each starts in the tables, and its bytes
 abbrev pub declaredSize : ℕ
 declaredSize = 512
@@ -88,6 +85,12 @@ blocksPlace = regionsPlace + regionsSize
 abbrev pub blocksSize : ℕ
 blocksSize = 10920
 
+abbrev pub tablesSize : ℕ
+tablesSize = blocksPlace + blocksSize
+
+unfoldable pub tables : List ℕ → List ℕ
+tables w = part tablesPlace tablesSize w
+
 -- the parts of the tables t of a workspace: a code for each name, two for each type, and three indexes
 unfoldable pub declaredPart : List ℕ → List ℕ
 declaredPart t = take declaredSize t
@@ -103,3 +106,11 @@ regionsPart t = part regionsPlace regionsSize t
 
 unfoldable pub blocksPart : List ℕ → List ℕ
 blocksPart t = part blocksPlace blocksSize t
+
+-- ---- the questions that the first pass asks, as far as they fit
+
+abbrev pub questionsPlace : ℕ
+questionsPlace = tablesPlace + tablesSize
+
+unfoldable pub questionsPart : List ℕ → List ℕ
+questionsPart w = drop questionsPlace w

@@ -17,7 +17,7 @@ use Rattle.workspace.specs.declared.variables.Slot.{Slot}
 use Rattle.workspace.specs.declared.variables.Slot.the-variants.{Set, Unset}
 use Rattle.workspace.specs.declared.types.Declaration.{Declaration}
 use Rattle.workspace.specs.declared.types.Declaration.the-variants.{As, Nothing}
-use Rattle.workspace.specs.Parts.{registersPart, tables, symbolsPart, regionsPart, blocksPart}
+use Rattle.workspace.specs.Parts.{registersPart, tables, symbolsPart, regionsPart, blocksPart, questionsPart}
 use Rattle.definition.specs.Record.{variablesBody}
 use Rattle.workspace.specs.Variables.{variableSize}
 use Rattle.workspace.specs.Types.{declaredAt, typeAt, pointeeAt}
@@ -97,6 +97,15 @@ pub record Fills (w x y z w′ : List ℕ) : Type 0 where
   pub regions : regionsPart (tables w′) ≡ y
   pub blocks : blocksPart (tables w′) ≡ z
 
+-- ---- the questions
+
+-- they alone are changed: they are q
+pub record PutsQuestions (w q w′ : List ℕ) : Type 0 where
+  pub kept : Kept w w′
+  pub tables : tables w′ ≡ tables w
+  pub registers : registersPart w′ ≡ registersPart w
+  pub questions : questionsPart w′ ≡ q
+
 -- ---- the registers
 
 -- they alone are changed
@@ -105,6 +114,7 @@ pub record Aside (w w′ : List ℕ) : Type 0 where
   pub fit : (stored : ℕ) → Fit w stored → Fit w′ stored
   pub size : length w′ ≡ length w
   pub tables : tables w′ ≡ tables w
+  pub questions : questionsPart w′ ≡ questionsPart w
 
 -- the word k is x, and the other registers are as they were
 pub record SetsWord (w : List ℕ) (k x : ℕ) (w′ : List ℕ) : Type 0 where

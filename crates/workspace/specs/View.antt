@@ -7,7 +7,7 @@ use lib.ListN.{length}
 use Rattle.value.specs.declared.Val.{Val}
 use Rattle.memory.specs.Overlay.{Overlay, Cell, store, stores}
 use Rattle.memory.specs.Entries.{Sorted, entries}
-use Rattle.workspace.specs.Parts.{workspaceSize, memoryPart, framePart, notePart, registersPart, tables}
+use Rattle.workspace.specs.Parts.{workspaceSize, memoryPart, framePart, notePart, registersPart, tables, questionsPart}
 use Rattle.workspace.specs.Variables.{variablesIn}
 use Rattle.workspace.specs.Note.{pendingIn, withName, Few}
 
@@ -47,13 +47,14 @@ noting x v = record { variables = v .variables; memory = v .memory; pending = wi
 
 -- ---- what a function did
 
--- the workspace w with n entries stored became w′ with n′, f was done to what it stood for, and the tables and registers are as they were
+-- the workspace w with n entries stored became w′ with n′, f was done to what it stood for, and the tables, registers and questions are as they were
 pub record Does (w : List ℕ) (n : ℕ) (f : View → View) (w′ : List ℕ) (n′ : ℕ) : Type 0 where
   pub holds : view w′ n′ ≡ f (view w n)
   pub tables : tables w′ ≡ tables w
   pub fit : Fit w′ n′
   pub size : length w′ ≡ length w
   pub registers : registersPart w′ ≡ registersPart w
+  pub questions : questionsPart w′ ≡ questionsPart w
 
 -- the same of a function that leaves memory alone, however many entries are stored
 pub record Changes (w : List ℕ) (f : View → View) (w′ : List ℕ) : Type 0 where
@@ -62,3 +63,4 @@ pub record Changes (w : List ℕ) (f : View → View) (w′ : List ℕ) : Type 0
   pub fit : (stored : ℕ) → Fit w stored → Fit w′ stored
   pub size : length w′ ≡ length w
   pub registers : registersPart w′ ≡ registersPart w
+  pub questions : questionsPart w′ ≡ questionsPart w

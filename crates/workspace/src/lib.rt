@@ -1,4 +1,5 @@
-// The lent workspace while a routine runs: what is written to memory, the variables, the pending note, the registers, and tables made once at the start.
+// The lent workspace while a routine runs: what is written to memory, the variables, the pending note, the registers, tables made once at the start, and
+// questions.
 // The functions take the whole workspace, and their contracts speak of what its bytes stand for.
 ghost use mathlib.Core.Path.{_≡_};
 ghost use mathlib.Core.List.{_++_};
@@ -33,14 +34,15 @@ pub const DECLARED: usize = REGISTERS + 144;
 
 pub const TYPES: usize = DECLARED + 512;
 
-// The indexes of symbols, regions and blocks, and their end.
+// The indexes of symbols, regions and blocks.
 pub const SYMBOLS: usize = TYPES + 1024;
 
 pub const REGIONS: usize = SYMBOLS + 1024;
 
 pub const BLOCKS: usize = REGIONS + 2522;
 
-pub const END: usize = BLOCKS + 10920;
+// The questions that the first pass asks, as far as they fit.
+pub const QUESTIONS: usize = BLOCKS + 10920;
 
 // The low bytes of a number stored from an address on, the lowest first; addresses wrap.
 pub fn store_number(

@@ -21,7 +21,7 @@ returns c =
     let at-no-counts = at-eval .before .before .before in
     let at-body = at-no-counts .before .before in
     let start = at-body .before .before .before in
-    evaluates _ _ _ _ _ _ _ _ _ _ (omega arith) (at-body .body .ensures) (at-no-counts .no-counts .ensures) (constant-stands _ _ (start .pre .0)) (start .pre .1) (at-eval .eval .ensures)
+    evaluates _ _ _ _ _ _ _ _ _ _ (omega arith) (omega arith) (at-body .body .ensures) (at-no-counts .no-counts .ensures) (constant-stands _ _ (start .pre .0)) (start .pre .1) (at-eval .eval .ensures)
 
 pub evaluate-in-spec : {M : Type 1} → statement M
 evaluate-in-spec =
