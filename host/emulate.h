@@ -28,7 +28,9 @@ extern "C" {
 
 /* ---- Lengths */
 
-/* The least workspace. A longer one does no harm; all of it is cleared. */
+/* The least workspace. A longer one does no harm; all of it is cleared. It keeps what a run asks
+ * until the place in the record is known: up to 4,292 bytes of questions in the least one, and as
+ * many more as it is longer. A run that asks more goes over the routine twice, with the same record. */
 #define EMULATE_WORKSPACE_NEEDED 65536
 
 /* The longest file of each of the three. */

@@ -215,6 +215,43 @@ static void test_regions(void)
     refused("a region more", 8, LONGEST, 65536);
 }
 
+/* Each load's question stands in its order, and the first ones have their byte. */
+static void check_reads(struct emulate_bytes made, uint32_t count, uint32_t answered)
+{
+    struct emulate_bytes rest = emulate_body(made, EMULATE_BODY_QUESTIONS);
+    struct emulate_question asked;
+    uint32_t i;
+    for (i = 0; i < count; i++) {
+        size_t used = emulate_read_question(rest, &asked);
+        CHECK(used == EMULATE_SIZE_READ + (i < answered));
+        CHECK(asked.address == 16 * i && asked.asked == 8 && asked.bytes.length == (i < answered));
+        CHECK(i >= answered || asked.bytes.first[0] == 'r');
+        rest = emulate_after(rest, used);
+    }
+    CHECK(rest.length == 0);
+}
+
+/* Some 4,290 bytes of questions, byte by byte up to more than the least workspace has room for: the
+ * record is the same with a longer one. */
+static void test_questions(void)
+{
+    enum { COUNT = 390, MORE = 8 };
+    uint64_t addresses[COUNT];
+    uint32_t i, answered;
+    for (i = 0; i < COUNT; i++)
+        addresses[i] = 16 * i;
+    make_loads(addresses, COUNT);
+    known.names.length = known.symbols.length = known.regions.length = 0;
+    for (answered = 0; answered <= MORE; answered++) {
+        const uint32_t length = LEAST + STEP + COUNT * EMULATE_SIZE_READ + answered;
+        finish_world(&known, &world);
+        check_reads(ran("questions", length, length, 65536), COUNT, answered);
+        check_reads(ran("a longer workspace", length, length, 65536 + MORE), COUNT, answered);
+        region(&known, addresses[answered], "r", 1);
+    }
+    cleared("questions past the buffer", 22, LEAST + STEP + COUNT * EMULATE_SIZE_READ, 65536 + MORE);
+}
+
 int main(void)
 {
     test_statements();
@@ -224,5 +261,6 @@ int main(void)
     test_nodes();
     test_symbols();
     test_regions();
+    test_questions();
     return outcome("limits");
 }

@@ -14,7 +14,7 @@ use Rattle.definition.specs.Run.{ran, recordOf, addressLimit, workspaceNeeded}
 use Rattle.definition.specs.Answered.{zeroed, Answered}
 use Rattle.definition.proofs.Answered.{refused-by-input, refused-by-workspace, cleared-by-addresses, cleared-by-buffer, cleared-by-length, ran-whole}
 use Rattle.stream.specs.declared.Lengths.{Lengths}
-use Rattle.stream.specs.Bodies.{lastEnd}
+use Rattle.stream.specs.Bodies.{stepsPlace, lastEnd}
 use Rattle.hosting.specs.declared.Counts.{Counts}
 use Rattle.hosting.specs.declared.Indexed.{Indexed}
 use Rattle.hosting.specs.declared.Stop.{Stop}
@@ -40,7 +40,7 @@ module _ (R : Ran) (record₀ w₀ record₁ w : List ℕ) (limit : ℕ) (stop :
     passed : FirstPassed R record₀ (ends .stop) record₁ w a
     passed = subst (λ (e : Ending statements.Stop). FirstPassedIf R record₀ e record₁ w a) (ends .same) (p .comes)
 
-    first-written : length (recordBytes R) ≤ length record₀ → record₁ ≡ sets record₀ 99 (stepsBody (R .steps))
+    first-written : length (recordBytes R) ≤ length record₀ → record₁ ≡ sets record₀ stepsPlace (stepsBody (R .steps))
     first-written h = passed .written h
 
     pub first-ended : Ended R limit stop w a

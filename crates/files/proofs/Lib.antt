@@ -5,6 +5,7 @@ pub mod ListedLaws
 pub mod TableLaws
 pub mod NameLaws
 pub mod HeadLaws
+pub mod ReferenceLaws
 pub mod TreeLaws
 pub mod BlockLaws
 pub mod WorldLaws

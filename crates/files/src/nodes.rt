@@ -2,6 +2,7 @@
 ghost use mathlib.Core.Path.{_≡_};
 ghost use Prim.Native.Nat.{_+_, _*_, _<_, _≤_, _/_};
 ghost use lib.ListN.{length};
+ghost use lib.Dec.{ltb};
 ghost use Rattle.files.specs.Nodes.{kindOf, flagOf, refOf, widthOf, spanOf, valueOf, ruleOf, refBelow, fieldOk, fieldsOk, rootOk};
 ghost use Rattle.files.specs.Rules.{row};
 
@@ -132,20 +133,17 @@ pub fn rule_of(kind: u8) -> Rule
     }
 }
 
-// What a reference stays below.
-fn bound(refers: u8, names: usize, types: usize) -> usize
-    ensures { λ r. ⌜ r ≡ refBelow refers names types ⌝ }
+// Whether a reference is below its bound, by a bit for each thing that a reference can be: a branch would be guessed wrong where kinds alternate.
+fn is_below(refers: u8, r: usize, names: usize, types: usize) -> bool
+    requires { ⌜ refers < 4 ⌝ }
+    ensures { λ ok. ⌜ ok ≡ ltb r (refBelow refers names types) ⌝ }
 {
-    if refers == NONE {
-        return 1;
-    }
-    if refers == NAME {
-        return names;
-    }
-    if refers == TYPE {
-        return types;
-    }
-    65536
+    let none = (r < 1) as u64;
+    let name = (r < names) as u64;
+    let ty = (r < types) as u64;
+    let index = (r < 65536) as u64;
+    let bits = none + name * 2 + ty * 4 + index * 8;
+    (bits >> refers) % 2 == 1
 }
 
 // Whether node n has a kind, and each field is what the kind lets it be.
@@ -158,12 +156,12 @@ fn check_node(b: &[u8], n: usize, names: usize, types: usize) -> bool
         return false;
     }
     let Rule(most, refers, narrow, wide, top, _, _) = rule_of(k);
-    let below = bound(refers, names, types);
     let f = flag(b, n);
     let r = reference(b, n);
     let w = width(b, n);
     let v = value(b, n);
-    (f <= most) & (r < below) & (narrow <= w) & (w <= wide) & (v <= top)
+    let below = is_below(refers, r, names, types);
+    (f <= most) & below & (narrow <= w) & (w <= wide) & (v <= top)
 }
 
 // Whether each whole node is as its kind lets it be.

@@ -18,7 +18,7 @@ use Rattle.workspace.specs.View.{view}
 use Rattle.workspace.proofs.CopyLaws.{length-body}
 use Rattle.stream.specs.declared.StopPiece.{StopPiece}
 use Rattle.stream.specs.declared.Lengths.{Lengths}
-use Rattle.stream.specs.Bodies.{stopBytes, stopFrom, pairsOf, lengthsOf}
+use Rattle.stream.specs.Bodies.{stopSize, countsSize, stopPlace, countsPlace, stepsPlace, stopBytes, stopFrom, pairsOf, lengthsOf}
 use Rattle.definition.proofs.Record.{stop-length, counts-length}
 use Rattle.hosting.specs.declared.Stop.{Stop}
 use Rattle.statements.specs.Telling.{Tells}
@@ -43,20 +43,20 @@ rest-stored s x b v n l h e =
 
 -- ---- the bodies of fixed length
 
-pub stop-put : (s x : List ℕ) (limit : ℕ) (stop : Stop) (p : StopPiece) → 99 ≤ length s → Tells limit stop p → x ≡ sets (midOf 48 39 s) 0 (stopBytes (stopFrom p)) → PutsStop limit stop s (putMid 48 39 s x)
+pub stop-put : (s x : List ℕ) (limit : ℕ) (stop : Stop) (p : StopPiece) → stepsPlace ≤ length s → Tells limit stop p → x ≡ sets (midOf stopPlace stopSize s) 0 (stopBytes (stopFrom p)) → PutsStop limit stop s (putMid stopPlace stopSize s x)
 stop-put s x limit stop p h t e = record {
-  bytes = λ b q. fixed-stored s x (stopBody b) 48 39 (omega arith) (omega (arith, stop-length b)) (e ∙ ap (sets (midOf 48 39 s) 0) (t .bytes b q));
+  bytes = λ b q. fixed-stored s x (stopBody b) stopPlace stopSize (omega arith) (omega (arith, stop-length b)) (e ∙ ap (sets (midOf stopPlace stopSize s) 0) (t .bytes b q));
 }
 
-pub counts-put : (s x : List ℕ) (entered recorded : ℕ) → 99 ≤ length s → x ≡ sets (midOf 87 12 s) 0 (countsBody entered recorded) → putMid 87 12 s x ≡ sets s 87 (countsBody entered recorded)
-counts-put s x entered recorded h e = fixed-stored s x (countsBody entered recorded) 87 12 (omega arith) (omega (arith, counts-length entered recorded)) e
+pub counts-put : (s x : List ℕ) (entered recorded : ℕ) → stepsPlace ≤ length s → x ≡ sets (midOf countsPlace countsSize s) 0 (countsBody entered recorded) → putMid countsPlace countsSize s x ≡ sets s countsPlace (countsBody entered recorded)
+counts-put s x entered recorded h e = fixed-stored s x (countsBody entered recorded) countsPlace countsSize (omega arith) (omega (arith, counts-length entered recorded)) e
 
-length-pairs : (l : Lengths) → length (pairsOf 48 (lengthsOf l)) ≡ 48
+length-pairs : (l : Lengths) → length (pairsOf stopPlace (lengthsOf l)) ≡ stopPlace
 unfolding pairsOf
 length-pairs l = refl
 
-pub pairs-put : (s x : List ℕ) (l : Lengths) → 99 ≤ length s → x ≡ sets (midOf 0 48 s) 0 (pairsOf 48 (lengthsOf l)) → putMid 0 48 s x ≡ sets s 0 (pairsOf 48 (lengthsOf l))
-pairs-put s x l h e = fixed-stored s x (pairsOf 48 (lengthsOf l)) 0 48 (omega arith) (omega (arith, length-pairs l)) e
+pub pairs-put : (s x : List ℕ) (l : Lengths) → stepsPlace ≤ length s → x ≡ sets (midOf 0 stopPlace s) 0 (pairsOf stopPlace (lengthsOf l)) → putMid 0 stopPlace s x ≡ sets s 0 (pairsOf stopPlace (lengthsOf l))
+pairs-put s x l h e = fixed-stored s x (pairsOf stopPlace (lengthsOf l)) 0 stopPlace (omega arith) (omega (arith, length-pairs l)) e
 
 -- ---- variables and memory
 

@@ -14,6 +14,7 @@ use Rattle.definition.specs.Record.{Ran, stepsBody, questionsBody, recordBytes}
 use Rattle.workspace.specs.Parts.{questionsPlace, questionsPart}
 use Rattle.workspace.proofs.LendLaws.{questions-lent}
 use Rattle.stream.specs.Stream.{most, Streamed}
+use Rattle.stream.specs.Bodies.{stepsPlace}
 use Rattle.stream.proofs.RecordLaws.{length-record}
 use Rattle.hosting.specs.declared.Counts.{Counts}
 use Rattle.hosting.specs.Ending.{Ending, ended, short}
@@ -45,11 +46,11 @@ stream-stored s x bytes a at h t = rest-stored s x bytes a (length bytes) refl h
 
 -- ---- the first pass
 
-module _ (R : Ran) (s x w₀ w : List ℕ) (a : ℕ) (place : a ≡ min (length s) 99) where
-  steps-written : (at : ℕ) → Streamed (midOf a (length s - a) s) x at (stepsBody (R .steps)) → length (recordBytes R) ≤ length s → putMid a (length s - a) s x ≡ sets s 99 (stepsBody (R .steps))
+module _ (R : Ran) (s x w₀ w : List ℕ) (a : ℕ) (place : a ≡ min (length s) stepsPlace) where
+  steps-written : (at : ℕ) → Streamed (midOf a (length s - a) s) x at (stepsBody (R .steps)) → length (recordBytes R) ≤ length s → putMid a (length s - a) s x ≡ sets s stepsPlace (stepsBody (R .steps))
   steps-written at t h =
       let l = length-record R in
-      let e : a ≡ 99 = omega arith in
+      let e : a ≡ stepsPlace = omega arith in
       stream-stored s x (stepsBody (R .steps)) a at (omega arith) t ∙ ap (λ (k : ℕ). sets s k (stepsBody (R .steps))) e
 
   first-if : (e : Ending Stop) (n : Counts) → PassedIf R false (midOf a (length s - a) s) e w x n → FirstPassedIf R s e (putMid a (length s - a) s x) w n

@@ -12,7 +12,7 @@ use Rattle.stream.specs.declared.Lengths.{Lengths}
 use Rattle.value.specs.Encoding.{valBytes}
 use Rattle.stream.specs.Pieces.{optional}
 use Rattle.stream.specs.Groups.{flaggedBytes, causeBytes, namedBytes}
-use Rattle.stream.specs.Bodies.{stopBytes, stopFrom, pairsOf, lengthsOf}
+use Rattle.stream.specs.Bodies.{stopSize, countsSize, stopPlace, stepsPlace, stopBytes, stopFrom, pairsOf, lengthsOf}
 use Rattle.stream.proofs.StoreLaws.{two-stored}
 
 -- ---- Stop
@@ -59,9 +59,9 @@ three-stored s t u w at o a b c i j e f p q r =
     ∙ ap (λ (k : ℕ). sets s at (pairsOf o (a ∷ []) ++ pairsOf i (b ∷ []) ++ pairsOf k (c ∷ []))) f
     ∙ ap (λ (k : ℕ). sets s at (pairsOf o (a ∷ []) ++ pairsOf k (b ∷ []) ++ pairsOf (k + b) (c ∷ []))) e
 
-pub pairs-stored : (s t u : List ℕ) (l : Lengths) (i : ℕ) → i ≡ 48 + 39 + 12 + l .steps → t ≡ sets s 0 (pairsOf 48 (39 ∷ 12 ∷ l .steps ∷ []))
-    → u ≡ sets t 24 (pairsOf i (l .variables ∷ l .memory ∷ l .questions ∷ [])) → u ≡ sets s 0 (pairsOf 48 (lengthsOf l))
+pub pairs-stored : (s t u : List ℕ) (l : Lengths) (i : ℕ) → i ≡ stepsPlace + l .steps → t ≡ sets s 0 (pairsOf stopPlace (stopSize ∷ countsSize ∷ l .steps ∷ []))
+    → u ≡ sets t 24 (pairsOf i (l .variables ∷ l .memory ∷ l .questions ∷ [])) → u ≡ sets s 0 (pairsOf stopPlace (lengthsOf l))
 unfolding pairsOf
 pairs-stored s t u l i e p q =
-    two-stored (pairsOf 48 (39 ∷ 12 ∷ l .steps ∷ [])) (pairsOf i (l .variables ∷ l .memory ∷ l .questions ∷ [])) s t u 0 24 p q refl
-    ∙ ap (λ (k : ℕ). sets s 0 (pairsOf 48 (39 ∷ 12 ∷ l .steps ∷ []) ++ pairsOf k (l .variables ∷ l .memory ∷ l .questions ∷ []))) e
+    two-stored (pairsOf stopPlace (stopSize ∷ countsSize ∷ l .steps ∷ [])) (pairsOf i (l .variables ∷ l .memory ∷ l .questions ∷ [])) s t u 0 24 p q refl
+    ∙ ap (λ (k : ℕ). sets s 0 (pairsOf stopPlace (stopSize ∷ countsSize ∷ l .steps ∷ []) ++ pairsOf k (l .variables ∷ l .memory ∷ l .questions ∷ []))) e

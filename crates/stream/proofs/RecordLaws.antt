@@ -12,7 +12,7 @@ use Rattle.memory.specs.Entries.{memoryBody}
 use Rattle.definition.specs.Record.{Ran, stopBody, countsBody, stepsBody, variablesBody, questionsBody, bodies, pairs, layout, recordBytes}
 use Rattle.definition.proofs.Record.{stop-length, counts-length}
 use Rattle.stream.specs.declared.Lengths.{Lengths}
-use Rattle.stream.specs.Bodies.{pairsOf, lengthsOf}
+use Rattle.stream.specs.Bodies.{stopPlace, countsPlace, stepsPlace, pairsOf, lengthsOf}
 use Rattle.stream.proofs.StoreLaws.{two-stored}
 
 -- ---- stores that do not meet may change places
@@ -68,70 +68,70 @@ module _ (r : Ran) where
   questions = questionsBody (r .questions)
 
   pub pairs-are : (l : Lengths) → l .steps ≡ length steps → l .variables ≡ length variables → l .memory ≡ length memory → l .questions ≡ length questions
-      → pairsOf 48 (lengthsOf l) ≡ pairs 48 (bodies r)
+      → pairsOf stopPlace (lengthsOf l) ≡ pairs stopPlace (bodies r)
   pairs-are l a b c d =
       let e = stop-length (r .stop) in
       let f = counts-length (r .entered) (r .recorded) in
-      sym (λ i. pairsOf 48 (e i ∷ f i ∷ sym a i ∷ sym b i ∷ sym c i ∷ sym d i ∷ [])) ∙ pairs-of 48 (bodies r)
+      sym (λ i. pairsOf stopPlace (e i ∷ f i ∷ sym a i ∷ sym b i ∷ sym c i ∷ sym d i ∷ [])) ∙ pairs-of stopPlace (bodies r)
 
-  record-is : recordBytes r ≡ pairs 48 (bodies r) ++ (stop ++ (counts ++ (steps ++ (variables ++ (memory ++ questions)))))
+  record-is : recordBytes r ≡ pairs stopPlace (bodies r) ++ (stop ++ (counts ++ (steps ++ (variables ++ (memory ++ questions)))))
   unfolding recordBytes layout
-  record-is = ap (λ (q : List ℕ). pairs 48 (bodies r) ++ (stop ++ (counts ++ (steps ++ (variables ++ (memory ++ q)))))) (append-nil questions)
+  record-is = ap (λ (q : List ℕ). pairs stopPlace (bodies r) ++ (stop ++ (counts ++ (steps ++ (variables ++ (memory ++ q)))))) (append-nil questions)
 
-  pub length-record : length (recordBytes r) ≡ 99 + length steps + length variables + length memory + length questions
+  pub length-record : length (recordBytes r) ≡ stepsPlace + length steps + length variables + length memory + length questions
   length-record =
       ap length record-is
       ∙ simp length-append (omega (arith, stop-length (r .stop), counts-length (r .entered) (r .recorded)))
 
-  module _ (v m q : ℕ) (hv : v ≡ 99 + length steps) (hm : m ≡ v + length variables) (hq : q ≡ m + length memory) (old : List ℕ) where
+  module _ (v m q : ℕ) (hv : v ≡ stepsPlace + length steps) (hm : m ≡ v + length variables) (hq : q ≡ m + length memory) (old : List ℕ) where
     abbrev head : List ℕ
-    head = pairs 48 (bodies r)
+    head = pairs stopPlace (bodies r)
 
     -- in the order of the run
     abbrev inOrder : List ℕ
-    inOrder = sets (sets (sets (sets (sets (sets (sets old 99 steps) q questions) 48 stop) 87 counts) v variables) m memory) 0 head
+    inOrder = sets (sets (sets (sets (sets (sets (sets old stepsPlace steps) q questions) stopPlace stop) countsPlace counts) v variables) m memory) 0 head
 
     -- back to back
     abbrev inRow : List ℕ
-    inRow = sets (sets (sets (sets (sets (sets (sets old 0 head) 48 stop) 87 counts) 99 steps) v variables) m memory) q questions
+    inRow = sets (sets (sets (sets (sets (sets (sets old 0 head) stopPlace stop) countsPlace counts) stepsPlace steps) v variables) m memory) q questions
 
     sorted : inOrder ≡ inRow
     sorted =
         let ls = stop-length (r .stop) in
         let lc = counts-length (r .entered) (r .recorded) in
         let l₁ = sets old 0 head in
-        let l₃ = sets (sets l₁ 48 stop) 87 counts in
-        below-first ((99, steps) ∷ (q, questions) ∷ (48, stop) ∷ (87, counts) ∷ (v, variables) ∷ (m, memory) ∷ []) 0 head old (omega arith, (omega arith, (omega arith, (omega arith, (omega arith, (omega arith, tt))))))
-        ∙ ap (λ (t : List ℕ). sets (sets (sets t 87 counts) v variables) m memory) (below-first ((99, steps) ∷ (q, questions) ∷ []) 48 stop l₁ (omega arith, (omega arith, tt)))
-        ∙ ap (λ (t : List ℕ). sets (sets t v variables) m memory) (below-first ((99, steps) ∷ (q, questions) ∷ []) 87 counts (sets l₁ 48 stop) (omega arith, (omega arith, tt)))
-        ∙ ap (λ (t : List ℕ). sets t m memory) (below-first ((q, questions) ∷ []) v variables (sets l₃ 99 steps) (omega arith, tt))
-        ∙ below-first ((q, questions) ∷ []) m memory (sets (sets l₃ 99 steps) v variables) (omega arith, tt)
+        let l₃ = sets (sets l₁ stopPlace stop) countsPlace counts in
+        below-first ((stepsPlace, steps) ∷ (q, questions) ∷ (stopPlace, stop) ∷ (countsPlace, counts) ∷ (v, variables) ∷ (m, memory) ∷ []) 0 head old (omega arith, (omega arith, (omega arith, (omega arith, (omega arith, (omega arith, tt))))))
+        ∙ ap (λ (t : List ℕ). sets (sets (sets t countsPlace counts) v variables) m memory) (below-first ((stepsPlace, steps) ∷ (q, questions) ∷ []) stopPlace stop l₁ (omega arith, (omega arith, tt)))
+        ∙ ap (λ (t : List ℕ). sets (sets t v variables) m memory) (below-first ((stepsPlace, steps) ∷ (q, questions) ∷ []) countsPlace counts (sets l₁ stopPlace stop) (omega arith, (omega arith, tt)))
+        ∙ ap (λ (t : List ℕ). sets t m memory) (below-first ((q, questions) ∷ []) v variables (sets l₃ stepsPlace steps) (omega arith, tt))
+        ∙ below-first ((q, questions) ∷ []) m memory (sets (sets l₃ stepsPlace steps) v variables) (omega arith, tt)
 
     joined : inRow ≡ sets old 0 (recordBytes r)
     joined =
         let ls = stop-length (r .stop) in
         let lc = counts-length (r .entered) (r .recorded) in
         let l₁ = sets old 0 head in
-        let l₂ = sets l₁ 48 stop in
-        let l₃ = sets l₂ 87 counts in
-        let l₄ = sets l₃ 99 steps in
+        let l₂ = sets l₁ stopPlace stop in
+        let l₃ = sets l₂ countsPlace counts in
+        let l₄ = sets l₃ stepsPlace steps in
         let l₅ = sets l₄ v variables in
-        two-stored head (stop ++ (counts ++ (steps ++ (variables ++ (memory ++ questions))))) old l₁ inRow 0 48 refl
-        (two-stored stop (counts ++ (steps ++ (variables ++ (memory ++ questions)))) l₁ l₂ inRow 48 87 refl
-        (two-stored counts (steps ++ (variables ++ (memory ++ questions))) l₂ l₃ inRow 87 99 refl
-        (two-stored steps (variables ++ (memory ++ questions)) l₃ l₄ inRow 99 v refl
+        two-stored head (stop ++ (counts ++ (steps ++ (variables ++ (memory ++ questions))))) old l₁ inRow 0 stopPlace refl
+        (two-stored stop (counts ++ (steps ++ (variables ++ (memory ++ questions)))) l₁ l₂ inRow stopPlace countsPlace refl
+        (two-stored counts (steps ++ (variables ++ (memory ++ questions))) l₂ l₃ inRow countsPlace stepsPlace refl
+        (two-stored steps (variables ++ (memory ++ questions)) l₃ l₄ inRow stepsPlace v refl
         (two-stored variables (memory ++ questions) l₄ l₅ inRow v m refl
         (two-stored memory questions l₅ (sets l₅ m memory) inRow m q refl refl hq) hm) hv) (omega arith)) (omega arith)) refl
         ∙ ap (sets old 0) (sym record-is)
 
     -- steps and questions by their streams, then the bodies that are written at once, then the pairs: the record, and then the old bytes
-    pub record-written : length (recordBytes r) ≤ length old → {s₁ s₂ s₃ s₄ s₅ s₆ s₇ : List ℕ} → s₁ ≡ sets old 99 steps → s₂ ≡ sets s₁ q questions
-        → s₃ ≡ sets s₂ 48 stop → s₄ ≡ sets s₃ 87 counts → s₅ ≡ sets s₄ v variables → s₆ ≡ sets s₅ m memory → s₇ ≡ sets s₆ 0 (pairs 48 (bodies r))
+    pub record-written : length (recordBytes r) ≤ length old → {s₁ s₂ s₃ s₄ s₅ s₆ s₇ : List ℕ} → s₁ ≡ sets old stepsPlace steps → s₂ ≡ sets s₁ q questions
+        → s₃ ≡ sets s₂ stopPlace stop → s₄ ≡ sets s₃ countsPlace counts → s₅ ≡ sets s₄ v variables → s₆ ≡ sets s₅ m memory → s₇ ≡ sets s₆ 0 (pairs stopPlace (bodies r))
         → s₇ ≡ recordBytes r ++ drop (length (recordBytes r)) old
     record-written h e₁ e₂ e₃ e₄ e₅ e₆ e₇ =
         let f₂ = e₂ ∙ ap (λ (t : List ℕ). sets t q questions) e₁ in
-        let f₃ = e₃ ∙ ap (λ (t : List ℕ). sets t 48 stop) f₂ in
-        let f₄ = e₄ ∙ ap (λ (t : List ℕ). sets t 87 counts) f₃ in
+        let f₃ = e₃ ∙ ap (λ (t : List ℕ). sets t stopPlace stop) f₂ in
+        let f₄ = e₄ ∙ ap (λ (t : List ℕ). sets t countsPlace counts) f₃ in
         let f₅ = e₅ ∙ ap (λ (t : List ℕ). sets t v variables) f₄ in
         let f₆ = e₆ ∙ ap (λ (t : List ℕ). sets t m memory) f₅ in
         e₇ ∙ ap (λ (t : List ℕ). sets t 0 head) f₆ ∙ sorted ∙ joined ∙ sets-eq (recordBytes r) old 0 (omega arith) ∙ rw zero-add
