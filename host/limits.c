@@ -1,4 +1,5 @@
-/* Files as full as they may be, and with one entry more; a run of as many units as a call may ask for.
+/* Files as full as they may be, and with one entry more; a run of as many units as a call may ask for; as
+ * many bytes of questions as the least workspace keeps, and more.
  * What is expected is written from document 01. Says which check failed and ends with 1. */
 #include "lending.h"
 
