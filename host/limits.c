@@ -220,7 +220,7 @@ static void test_regions(void)
 static void check_reads(struct emulate_bytes made, uint32_t count, uint32_t answered)
 {
     struct emulate_bytes rest = emulate_body(made, EMULATE_BODY_QUESTIONS);
-    struct emulate_question asked;
+    struct emulate_question asked = { 0 };
     uint32_t i;
     for (i = 0; i < count; i++) {
         size_t used = emulate_read_question(rest, &asked);
