@@ -27,13 +27,19 @@ pub record Held : Type 0 where
 unfoldable pub held : List ℕ → List ℕ → Counts → Held
 held w o a = record { view = view w (a .stored); out = o; questions = questionsPart w; tally = a .tally }
 
--- ---- counts: with another cursor of the questions, with another number of entries, after a step of n bytes, after a unit is paid
+-- ---- counts: with another cursor of the questions or of the steps, with another number of entries, after a step of n bytes, after a unit is paid
 
 abbrev pub askedTally : ℕ → Tally → Tally
 askedTally cursor t = record { recorded = t .recorded; asked = cursor; left = t .left; entered = t .entered; steps = t .steps }
 
 abbrev pub withAsked : ℕ → Counts → Counts
 withAsked cursor a = record { stored = a .stored; tally = askedTally cursor (a .tally) }
+
+abbrev pub withRecorded : ℕ → Counts → Counts
+withRecorded cursor a = record {
+  stored = a .stored;
+  tally = record { recorded = cursor; asked = a .tally .asked; left = a .tally .left; entered = a .tally .entered; steps = a .tally .steps };
+}
 
 abbrev pub withStored : ℕ → Counts → Counts
 withStored n a = record { stored = n; tally = a .tally }

@@ -59,11 +59,6 @@ pub enum Outcome {
     Ends(Short),
 }
 
-pub struct Evaluated {
-    pub outcome: Outcome,
-    pub at: Counts,
-}
-
 pub enum Note {
     Nothing,
     Fields(u64, u64),
@@ -81,11 +76,6 @@ pub struct Did {
 pub enum Done {
     Does(Did),
     Fails(Short),
-}
-
-pub struct Executed {
-    pub outcome: Done,
-    pub at: Counts,
 }
 
 // What a returned value is cast to: a type, or nothing where the return type is `void`.

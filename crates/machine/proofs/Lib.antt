@@ -9,4 +9,4 @@ pub mod Siblings
 pub mod SiblingArgs
 pub mod SiblingFields
 pub mod Operands
-pub mod Entering
+pub mod Noting

@@ -11,29 +11,27 @@ use Rattle.definition.specs.Act.{Act, done, fail, unknownAddress, fieldsWritten
 use Rattle.definition.specs.Term.{Terms, eval, evals, kids, count, nothing}
 use Rattle.definition.specs.Evaluate.{Env, Did, did, numberIn, look, looks, execute, assignStruct, assignVal, storeFields}
 use Rattle.value.specs.Encoding.{valueSize}
-use Rattle.hosting.specs.declared.Counts.{Counts}
-use Rattle.hosting.specs.declared.Evaluated.{Evaluated}
-use Rattle.hosting.specs.declared.Executed.{Executed}
+use Rattle.hosting.specs.declared.Outcome.{Outcome}
+use Rattle.hosting.specs.declared.Done.{Done}
 use Rattle.machine.specs.declared.Filled.{Filled}
-use Rattle.hosting.specs.Scene.{Given, given}
+use Rattle.hosting.specs.Scene.{given}
 use Rattle.hosting.specs.Stands.{Stands, KidsAt, FieldsAt}
 use Rattle.hosting.specs.Ending.{endOf, doneOf}
-use Rattle.hosting.specs.Runs.{Runs}
 use Rattle.operations.specs.Registers.{shortIn, endBy, endIn, toldEnd, unitIn}
 use Rattle.operations.specs.Going.{Goes}
 use Rattle.operations.specs.Taking.{ValuesIn}
 
--- ---- what a caller hands over and is given
+-- ---- in nodes b, with symbols s and regions r
 
 -- the tree at node n is evaluated
-pub record Evals (g : Given) (n : ℕ) (w₀ o₀ : List ℕ) (a₀ : Counts) (r : Evaluated) (w o : List ℕ) : Type 0 where
-  pub runs : (t : Tree) → Stands (g .nodes) n t → Runs g (λ x. eval (look (x .env) t)) w₀ o₀ a₀ (endOf (r .outcome)) w o (r .at)
+pub record Evals (b s r : List ℕ) (n : ℕ) (w₀ o₀ : List ℕ) (q : Outcome) (w o : List ℕ) : Type 0 where
+  pub goes : (t : Tree) → Stands b n t → Goes (given b s r) (λ x. eval (look (x .env) t)) w₀ o₀ (endOf q) w o
 
 -- it is executed
-pub record Executes (g : Given) (n : ℕ) (w₀ o₀ : List ℕ) (a₀ : Counts) (q : Executed) (w o : List ℕ) : Type 0 where
-  pub runs : (t : Tree) → Stands (g .nodes) n t → Runs g (λ x. execute (x .env) (look (x .env) t)) w₀ o₀ a₀ (doneOf (q .outcome)) w o (q .at)
+pub record Executes (b s r : List ℕ) (n : ℕ) (w₀ o₀ : List ℕ) (q : Done) (w o : List ℕ) : Type 0 where
+  pub goes : (t : Tree) → Stands b n t → Goes (given b s r) (λ x. execute (x .env) (look (x .env) t)) w₀ o₀ (doneOf q) w o
 
--- ---- the same in the registers, in nodes b, with symbols s and regions r
+-- ---- the same, told by the registers
 
 pub record Evaluates (b s r : List ℕ) (n : ℕ) (w₀ o₀ : List ℕ) (q : Bool) (w o : List ℕ) : Type 0 where
   pub goes : (t : Tree) → Stands b n t → Goes (given b s r) (λ x. eval (look (x .env) t)) w₀ o₀ (endIn q w) w o

@@ -4,16 +4,14 @@ ghost use mathlib.Core.Path.{_≡_};
 ghost use Prim.Native.Nat.{_<_};
 ghost use lib.ListN.{length};
 ghost use Rattle.files.specs.Nodes.{kindOf};
-ghost use Rattle.hosting.specs.Scene.{given, Ready};
+ghost use Rattle.hosting.specs.Scene.{given};
 ghost use Rattle.hosting.specs.Stands.{Fine, FineKids, FineArgs, FineFields};
 ghost use Rattle.operations.specs.Registers.{resultIn};
 ghost use Rattle.operations.specs.Going.{ReadyIn};
 ghost use Rattle.machine.specs.Post.{Evals, Executes, Evaluates, Assigns, EvaluatesKids, EvaluatesArgs, AssignsVal, AssignsStruct, StoresStruct, StoresFields};
 use files::nodes;
-use hosting::Counts;
-use hosting::Evaluated;
-use hosting::Executed;
-use hosting::How;
+use hosting::Done;
+use hosting::Outcome;
 use hosting::Short;
 use operations::calls;
 use operations::names;
@@ -36,17 +34,14 @@ pub fn eval(
     regions: &[u8],
     ws: &mut [u8],
     out: &mut [u8],
-    how: How,
     n: usize,
-    at: Counts,
-) -> Evaluated
-    requires { ⌜ Ready (given (now nodes) (now symbols) (now regions) how) (now ws) at ⌝ }
+) -> Outcome
+    requires { ⌜ ReadyIn (given (now nodes) (now symbols) (now regions)) (now ws) ⌝ }
     requires { ⌜ Fine (now nodes) n ⌝ }
-    ensures { λ r. ⌜ Evals (given (now (nodes .entry)) (now (symbols .entry)) (now (regions .entry)) how) n (now (ws .entry)) (now (out .entry)) at r (now (ws .exit)) (now (out .exit)) ⌝ }
+    ensures { λ r. ⌜ Evals (now (nodes .entry)) (now (symbols .entry)) (now (regions .entry)) n (now (ws .entry)) (now (out .entry)) r (now (ws .exit)) (now (out .exit)) ⌝ }
 {
-    results::enter(ws, how, at);
     let ok = evaluate(nodes, symbols, regions, ws, out, n);
-    results::evaluated(ws, ok)
+    results::outcome(ws, ok)
 }
 
 // What a statement that is the expression at node n does.
@@ -56,15 +51,12 @@ pub fn execute(
     regions: &[u8],
     ws: &mut [u8],
     out: &mut [u8],
-    how: How,
     n: usize,
-    at: Counts,
-) -> Executed
-    requires { ⌜ Ready (given (now nodes) (now symbols) (now regions) how) (now ws) at ⌝ }
+) -> Done
+    requires { ⌜ ReadyIn (given (now nodes) (now symbols) (now regions)) (now ws) ⌝ }
     requires { ⌜ Fine (now nodes) n ⌝ }
-    ensures { λ r. ⌜ Executes (given (now (nodes .entry)) (now (symbols .entry)) (now (regions .entry)) how) n (now (ws .entry)) (now (out .entry)) at r (now (ws .exit)) (now (out .exit)) ⌝ }
+    ensures { λ r. ⌜ Executes (now (nodes .entry)) (now (symbols .entry)) (now (regions .entry)) n (now (ws .entry)) (now (out .entry)) r (now (ws .exit)) (now (out .exit)) ⌝ }
 {
-    results::enter(ws, how, at);
     let kind = nodes::kind(nodes, n);
     if kind == nodes::ASSIGN {
         let ok = execute_assign(nodes, symbols, regions, ws, out, n);
@@ -102,7 +94,10 @@ fn execute_assign(
         return false;
     }
     let v = registers::value(ws, results::RESULT);
-    names::write(nodes, symbols, ws, out, left, v)
+    if names::write_declared(nodes, ws, left, v) {
+        return true;
+    }
+    names::write_symbol(nodes, symbols, ws, out, left, v)
 }
 
 // The expression at node n is evaluated. Of an Assign the registers also tell what it did.

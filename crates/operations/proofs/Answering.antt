@@ -30,10 +30,10 @@ use Rattle.hosting.specs.declared.Short.{Short}
 use Rattle.hosting.specs.declared.Outcome.the-variants.{Is, Ends}
 use Rattle.hosting.specs.declared.Note.the-variants.{Nothing, Fields, Written, Unknown}
 use Rattle.hosting.specs.declared.Done.the-variants.{Does, Fails}
-use Rattle.hosting.specs.declared.Executed.{Executed}
-use Rattle.hosting.specs.Ending.{ended, doneOf, answerEnd}
-use Rattle.operations.specs.Registers.{countsIn, shortIn, resultIn, toldIn, didWrite, didBy}
-use Rattle.operations.specs.Steps.{Gives, GivesShort, Tells, Answers, Enters, EntersCounts, EntersHow, Leaves, LeavesTold, LeavesDid, TellsNote, LeavesNoted}
+use Rattle.hosting.specs.declared.Done.{Done}
+use Rattle.hosting.specs.Ending.{ended, endOf, doneOf, noteOf, answerEnd}
+use Rattle.operations.specs.Registers.{countsIn, shortIn, resultIn, toldIn, didWrite, didBy, endIn, toldEnd}
+use Rattle.operations.specs.Steps.{Gives, GivesShort, Tells, Answers, Enters, EntersCounts, EntersHow, notedEnd}
 use Rattle.operations.specs.Steps as steps
 use Rattle.operations.proofs.Registers.{counts-by, how-by, short-by, told-by, counts-kept, result-value, aside-aside, beside-beside, beside-word, beside-value}
 use Rattle.operations.proofs.Going.{by-true, by-false}
@@ -132,18 +132,18 @@ counts-is w a e₀ e₁ e₂ e₃ e₄ e₅ = sym (counts-by w a (sym e₀) (sym
 pub short-is : (w : List ℕ) (r n : ℕ) → r ≡ wordAt (registersPart w) 9 → n ≡ wordAt (registersPart w) 10 → _≡_ {A = Short} (record { reason = r; number = n }) (shortIn w)
 short-is w r n er en = sym (short-by w (record { reason = r; number = n }) (sym er) (sym en))
 
-module _ {w : List ℕ} {ok : Bool} {a : Counts} where
-  pub leaves-value : {v : Val} → ok ≡ true → a ≡ countsIn w → v ≡ valueAt (registersPart w) 0 → Leaves w ok (record { outcome = Is v; at = a })
-  leaves-value y ea e = record { at = ea; ends = sym (by-true (shortIn w) y (sym (e ∙ result-value w))) }
+module _ (w : List ℕ) {ok : Bool} where
+  pub outcome-value : {v : Val} → ok ≡ true → v ≡ valueAt (registersPart w) 0 → endOf (Is v) ≡ endIn ok w
+  outcome-value y e = sym (by-true (shortIn w) y (sym (e ∙ result-value w)))
 
-  pub leaves-short : {s : Short} → ok ≡ false → a ≡ countsIn w → s ≡ shortIn w → Leaves w ok (record { outcome = Ends s; at = a })
-  leaves-short n ea e = record { at = ea; ends = sym (by-false (resultIn w) n (sym e)) }
+  pub outcome-short : {s : Short} → ok ≡ false → s ≡ shortIn w → endOf (Ends s) ≡ endIn ok w
+  outcome-short n e = sym (by-false (resultIn w) n (sym e))
 
-  pub told-did : {q : Executed} → ok ≡ true → a ≡ countsIn w → LeavesDid w a q → LeavesTold w ok q
-  told-did y ea d = record { at = d .at ∙ ea; ends = d .ends ∙ sym (by-true (shortIn w) y refl) }
+  pub told-did : (q : Done) → ok ≡ true → doneOf q ≡ ended (toldIn w) → doneOf q ≡ toldEnd ok w
+  told-did q y d = d ∙ sym (by-true (shortIn w) y refl)
 
-  pub told-short : {s : Short} → ok ≡ false → a ≡ countsIn w → s ≡ shortIn w → LeavesTold w ok (record { outcome = Fails s; at = a })
-  told-short n ea e = record { at = ea; ends = sym (by-false (toldIn w) n (sym e)) }
+  pub told-short : {s : Short} → ok ≡ false → s ≡ shortIn w → doneOf (Fails s) ≡ toldEnd ok w
+  told-short n e = sym (by-false (toldIn w) n (sym e))
 
 -- what an Assign told, by its words
 did-other : (t x n : ℕ) (v : Val) → (t ≡ 0 → ⊥) → (t ≡ 1 → ⊥) → didBy t x n v ≡ did (act.valueWritten x v)
@@ -151,21 +151,21 @@ did-other zero x n v z o = absurd (z refl)
 did-other (suc zero) x n v z o = absurd (o refl)
 did-other (suc (suc t)) x n v z o = refl
 
-module _ (w : List ℕ) (a : Counts) (t x : ℕ) (v : Val) (et : t ≡ wordAt (registersPart w) 11) (ex : x ≡ wordAt (registersPart w) 12) (ev : v ≡ valueAt (registersPart w) 1) where
+module _ (w : List ℕ) (t x : ℕ) (v : Val) (et : t ≡ wordAt (registersPart w) 11) (ex : x ≡ wordAt (registersPart w) 12) (ev : v ≡ valueAt (registersPart w) 1) where
   told-is : (n : ℕ) → n ≡ wordAt (registersPart w) 13 → toldIn w ≡ didBy t x n v
   told-is n en = told-by w t x n v (sym et) (sym ex) (sym en) (sym ev)
 
   told-at : (k n : ℕ) → t ≡ k → n ≡ wordAt (registersPart w) 13 → toldIn w ≡ didBy k x n v
   told-at k n ek en = told-is n en ∙ ap (λ (j : ℕ). didBy j x n v) ek
 
-  pub did-wrote : t ≡ 0 → LeavesDid w a (record { outcome = Does (record { wrote = true; name = x; value = v; note = Nothing }); at = a })
-  did-wrote z = record { at = refl; ends = ap (λ (d : Did). ended d) (sym (told-at 0 (wordAt (registersPart w) 13) z refl)) }
+  pub did-wrote : t ≡ 0 → doneOf (Does (record { wrote = true; name = x; value = v; note = Nothing })) ≡ ended (toldIn w)
+  did-wrote z = ap (λ (d : Did). ended d) (sym (told-at 0 (wordAt (registersPart w) 13) z refl))
 
-  pub did-fields : (n : ℕ) (q : Executed) → t ≡ 1 → n ≡ wordAt (registersPart w) 13 → TellsNote a (Fields x n) q → LeavesDid w a q
-  did-fields n q o en h = record { at = h .at; ends = h .ends ∙ ap (λ (d : Did). ended d) (sym (told-at 1 n o en)) }
+  pub did-fields : (n : ℕ) (q : Done) → t ≡ 1 → n ≡ wordAt (registersPart w) 13 → doneOf q ≡ ended (did (noteOf (Fields x n))) → doneOf q ≡ ended (toldIn w)
+  did-fields n q o en h = h ∙ ap (λ (d : Did). ended d) (sym (told-at 1 n o en))
 
-  pub did-value : (q : Executed) → (t ≡ 0 → ⊥) → (t ≡ 1 → ⊥) → TellsNote a (Written x v) q → LeavesDid w a q
-  did-value q z o h = record { at = h .at; ends = h .ends ∙ ap (λ (d : Did). ended d) (sym (told-is (wordAt (registersPart w) 13) refl ∙ did-other t x (wordAt (registersPart w) 13) v z o)) }
+  pub did-value : (q : Done) → (t ≡ 0 → ⊥) → (t ≡ 1 → ⊥) → doneOf q ≡ ended (did (noteOf (Written x v))) → doneOf q ≡ ended (toldIn w)
+  did-value q z o h = h ∙ ap (λ (d : Did). ended d) (sym (told-is (wordAt (registersPart w) 13) refl ∙ did-other t x (wordAt (registersPart w) 13) v z o))
 
 -- ---- the note of a statement that is no Assign
 
@@ -181,24 +181,24 @@ note-is true true signed bits number (some xs) = refl
 note-is true false signed bits number none = refl
 note-is true false signed bits number (some xs) = refl
 
-module _ (w : List ℕ) (kind : ℕ) (ok : Bool) (a : Counts) (ea : a ≡ countsIn w) where
-  pub noted-short : {s : Short} → not ok ≡ true → s ≡ shortIn w → LeavesNoted w kind ok (record { outcome = Fails s; at = a })
-  noted-short n e = record { at = ea; ends = sym (by-false (did (steps.noted kind (resultIn w) (pendingIn (notePart w)))) (not-true ok n) (sym e)) }
+module _ (w : List ℕ) (kind : ℕ) (ok : Bool) where
+  pub noted-short : {s : Short} → not ok ≡ true → s ≡ shortIn w → doneOf (Fails s) ≡ notedEnd kind ok w
+  noted-short n e = sym (by-false (did (steps.noted kind (resultIn w) (pendingIn (notePart w)))) (not-true ok n) (sym e))
 
-  module _ (q : Executed) (v : Val) (h : Bool) (y : not ok ≡ false) (e : v ≡ valueAt (registersPart w) 0) (eh : h ≡ noted (pendingIn (notePart w))) where
+  module _ (q : Done) (v : Val) (h : Bool) (y : not ok ≡ false) (e : v ≡ valueAt (registersPart w) 0) (eh : h ≡ noted (pendingIn (notePart w))) where
     noted-if : (t : Bool) → ((eqb kind 14 || eqb kind 15) && not (v .known)) && not h ≡ t → steps.noted kind (resultIn w) (pendingIn (notePart w)) ≡ noteIf t
     noted-if t c = ap (λ (u : Val). steps.noted kind u (pendingIn (notePart w))) (sym (e ∙ result-value w))
         ∙ note-is (eqb kind 14 || eqb kind 15) (v .known) (v .signed) (v .bits) (v .number) (pendingIn (notePart w))
         ∙ ap (λ (b : Bool). noteIf (((eqb kind 14 || eqb kind 15) && not (v .known)) && not b)) (sym eh) ∙ ap noteIf c
 
-    noted-as : (t : Bool) → ((eqb kind 14 || eqb kind 15) && not (v .known)) && not h ≡ t → q .at ≡ a → doneOf (q .outcome) ≡ ended (did (noteIf t)) → LeavesNoted w kind ok q
-    noted-as t c eq ed = record { at = eq ∙ ea; ends = ed ∙ sym (by-true (shortIn w) (not-false ok y) (ap (λ (z : act.Note). did z) (noted-if t c))) }
+    noted-as : (t : Bool) → ((eqb kind 14 || eqb kind 15) && not (v .known)) && not h ≡ t → doneOf q ≡ ended (did (noteIf t)) → doneOf q ≡ notedEnd kind ok w
+    noted-as t c ed = ed ∙ sym (by-true (shortIn w) (not-false ok y) (ap (λ (z : act.Note). did z) (noted-if t c)))
 
-    pub noted-unknown : ((eqb kind 14 || eqb kind 15) && not (v .known)) && not h ≡ true → TellsNote a Unknown q → LeavesNoted w kind ok q
-    noted-unknown c g = noted-as true c (g .at) (g .ends)
+    pub noted-unknown : ((eqb kind 14 || eqb kind 15) && not (v .known)) && not h ≡ true → doneOf q ≡ ended (did (noteOf Unknown)) → doneOf q ≡ notedEnd kind ok w
+    noted-unknown c g = noted-as true c g
 
-    pub noted-nothing : ((eqb kind 14 || eqb kind 15) && not (v .known)) && not h ≡ false → TellsNote a Nothing q → LeavesNoted w kind ok q
-    noted-nothing c g = noted-as false c (g .at) (g .ends)
+    pub noted-nothing : ((eqb kind 14 || eqb kind 15) && not (v .known)) && not h ≡ false → doneOf q ≡ ended (did (noteOf Nothing)) → doneOf q ≡ notedEnd kind ok w
+    noted-nothing c g = noted-as false c g
 
 -- ---- a value told in another way
 

@@ -43,7 +43,7 @@ use Rattle.hosting.specs.Ending.{Ending, ended}
 use Rattle.hosting.specs.Runs.{Came, Runs}
 use Rattle.hosting.proofs.Running.{kept-on}
 use Rattle.hosting.proofs.Keeping.{kept-ready}
-use Rattle.operations.specs.Registers.{countsIn, howIn, endIn}
+use Rattle.operations.specs.Registers.{countsIn, unitsOf, howIn, endIn}
 use Rattle.operations.specs.Going.{Goes}
 use Rattle.operations.specs.Steps.{Gives}
 use Rattle.operations.specs.Asking.{Sends, Asks, foundVal, LoadsAt}
@@ -124,6 +124,7 @@ sends-asks e {w} {o} f i s = record {
   answer = f;
   held = sends-held e s ∙ ap (λ (z : Entry). asked (howIn w .second) z (held w o (countsIn w))) i;
   stored = ap (λ (b : Counts). b .stored) (s .counts);
+  units = ap unitsOf (s .counts);
   how = s .how;
 }
 
@@ -137,7 +138,7 @@ asked-ready {w = w} {w′ = w′} h s p = kept-ready (s .tables) (subst (Fit w�
 pub asks-goes : {A : Type 0} {nodes symbols regions : List ℕ} {κ : Asked} {q : Question κ} {y : Answer κ} (k : Scene → Answer κ → Act A) {w o w₁ o₁ : List ℕ} {e : Ending A} {w′ o′ : List ℕ}
     → Asks (given nodes symbols regions) κ q y w o w₁ o₁ → Goes (given nodes symbols regions) (λ x. k x y) w₁ o₁ e w′ o′ → Goes (given nodes symbols regions) (λ x. ask κ q (k x)) w o e w′ o′
 unfolding hosted codeHost
-asks-goes {A} {nodes} {symbols} {regions} {κ} {q} {y} k {w} {o} {w₁} {o₁} {e} {w′} {o′} s r = record { how = r .how ∙ s .how; runs = λ h i p. on h i (r .runs h (s .how ∙ i) (asked-ready h s p)) }
+asks-goes {A} {nodes} {symbols} {regions} {κ} {q} {y} k {w} {o} {w₁} {o₁} {e} {w′} {o′} s r = record { how = r .how ∙ s .how; units = r .units ∙ s .units; runs = λ h i p. on h i (r .runs h (s .how ∙ i) (asked-ready h s p)) }
   where
     on : (h : How) → howIn w ≡ h → Runs (given nodes symbols regions h) (λ x. k x y) w₁ o₁ (countsIn w₁) e w′ o′ (countsIn w′)
         → Runs (given nodes symbols regions h) (λ x. ask κ q (k x)) w o (countsIn w) e w′ o′ (countsIn w′)
@@ -199,6 +200,7 @@ gather-goes : {g : How → Given} (n address : ℕ) (image : List ℕ) {w o : Li
 unfolding held
 gather-goes {g} n address image {w} {o} = record {
   how = refl;
+  units = refl;
   runs = λ h _ p. record { ready = p; came = λ x m. gather-hosted (x .world) (g h .how .second) n address image (held w o (countsIn w)); tables = refl };
 }
 

@@ -18,11 +18,11 @@ use Rattle.hosting.specs.declared.Short.{Short}
 use Rattle.hosting.specs.Scene.{Given, Scene, Ready, Meant}
 use Rattle.hosting.specs.Held.{Held, held, codeHost}
 use Rattle.hosting.specs.Ending.{Ending, ended, short, shortOf}
-use Rattle.hosting.specs.Runs.{Came, Runs}
+use Rattle.hosting.specs.Runs.{Came, Kept, Runs}
 use Rattle.hosting.proofs.Running as running
 use Rattle.hosting.proofs.Keeping.{kept-ready}
-use Rattle.operations.specs.Registers.{countsIn, howIn, shortIn, resultIn, endBy, endIn, toldEnd}
-use Rattle.operations.specs.Going.{ReadyIn, Goes, Beside}
+use Rattle.operations.specs.Registers.{countsIn, unitsOf, howIn, shortIn, resultIn, endBy, endIn, toldEnd}
+use Rattle.operations.specs.Going.{ReadyIn, Goes, Remains, Beside}
 use Rattle.operations.specs.Steps.{Gives, GivesShort, Tells}
 
 -- ---- where the registers alone change
@@ -59,32 +59,33 @@ aside-before {A} {g} {m} {o₀ = o₀} {a₀ = a₀} {e = e} {w = w} {o = o} {a 
 module _ {A : Type 0} {g : How → Given} where
   -- a value is given, or an evaluation ends short, and nothing is done. What is given may be told by the tables
   pub done-goes : (val : Scene → A) {v : A} {w o : List ℕ} → ((h : How) (x : Scene) → Meant (g h) x (tables w) → val x ≡ v) → Goes g (λ x. done (val x)) w o (ended v) w o
-  done-goes val e = record { how = refl; runs = λ h _ p. running.done-runs val (e h) p }
+  done-goes val e = record { how = refl; units = refl; runs = λ h _ p. running.done-runs val (e h) p }
 
   pub fail-goes : {y : Why} {w o : List ℕ} → Goes {A = A} g (λ x. fail y) w o (short (some y)) w o
-  fail-goes = record { how = refl; runs = λ h _ p. running.fail-runs p }
+  fail-goes = record { how = refl; units = refl; runs = λ h _ p. running.fail-runs p }
 
   pub pending-goes : (f : Pending → A) {w o : List ℕ} → Goes g (λ x. pending (λ p. done (f p))) w o (ended (f (pendingIn (notePart w)))) w o
-  pending-goes f = record { how = refl; runs = λ h _ p. running.pending-runs f p }
+  pending-goes f = record { how = refl; units = refl; runs = λ h _ p. running.pending-runs f p }
 
 module _ {A B : Type 0} {g : How → Given} {m : Scene → Act A} (f : Scene → A → Act B) {w₀ o₀ : List ℕ} where
   pub goes : {v : A} {e : Ending B} {w₁ o₁ w o : List ℕ} → Goes g m w₀ o₀ (ended v) w₁ o₁ → Goes g (λ x. f x v) w₁ o₁ e w o → Goes g (λ x. m x >>= f x) w₀ o₀ e w o
   goes p q = record {
     how = q .how ∙ p .how;
+    units = q .units ∙ p .units;
     runs = λ h e r. let u = p .runs h e r in running.goes f u (q .runs h (p .how ∙ e) (u .ready));
   }
 
   pub halts : (y : Option Why) {w o : List ℕ} → Goes g m w₀ o₀ (short y) w o → Goes g (λ x. m x >>= f x) w₀ o₀ (short y) w o
-  halts y p = record { how = p .how; runs = λ h e r. running.halts f y (p .runs h e r) }
+  halts y p = record { how = p .how; units = p .units; runs = λ h e r. running.halts f y (p .runs h e r) }
 
 pub assoc : {A B C : Type 0} {g : How → Given} (m : Scene → Act A) (f : Scene → A → Act B) (k : Scene → B → Act C) {w₀ o₀ : List ℕ} {e : Ending C} {w o : List ℕ}
     → Goes g (λ x. m x >>= λ v. f x v >>= k x) w₀ o₀ e w o → Goes g (λ x. (m x >>= f x) >>= k x) w₀ o₀ e w o
-assoc m f k p = record { how = p .how; runs = λ h e r. running.assoc m f k (p .runs h e r) }
+assoc m f k p = record { how = p .how; units = p .units; runs = λ h e r. running.assoc m f k (p .runs h e r) }
 
 -- the same by an equation of acts, which the tables may show
 pub acts : {A : Type 0} {g : How → Given} {m n : Scene → Act A} {w₀ o₀ : List ℕ} {e : Ending A} {w o : List ℕ} → ((h : How) (x : Scene) → Meant (g h) x (tables w₀) → n x ≡ m x)
     → Goes g m w₀ o₀ e w o → Goes g n w₀ o₀ e w o
-acts p r = record { how = r .how; runs = λ h e q. running.acts (p h) (r .runs h e q) }
+acts p r = record { how = r .how; units = r .units; runs = λ h e q. running.acts (p h) (r .runs h e q) }
 
 -- the same, told by an equal ending
 pub told : {A : Type 0} {g : How → Given} {m : Scene → Act A} {w₀ o₀ : List ℕ} {e e′ : Ending A} {w o : List ℕ} → e′ ≡ e → Goes g m w₀ o₀ e w o → Goes g m w₀ o₀ e′ w o
@@ -94,11 +95,21 @@ told {A} {g} {m} {w₀} {o₀} {w = w} {o = o} p r = subst (λ (z : Ending A). G
 pub ready-after : {A : Type 0} {g : How → Given} {m : Scene → Act A} {w₀ o₀ : List ℕ} {v : A} {w o : List ℕ} → Goes g m w₀ o₀ (ended v) w o → ReadyIn g w₀ → ReadyIn g w
 ready-after {g = g} {w₀ = w₀} {w = w} p r = record { ready = subst (λ (h : How). Ready (g h) w (countsIn w)) (sym (p .how)) (p .runs (howIn w₀) refl (r .ready) .ready) }
 
+-- what it leaves, unless there is no room left
+pub remains : {A : Type 0} {g : How → Given} {m : Scene → Act A} {w₀ o₀ : List ℕ} {e : Ending A} {w o : List ℕ} → Goes g m w₀ o₀ e w o → ReadyIn g w₀ → Kept e (Remains g w₀ w)
+remains {g = g} {w₀ = w₀} {e = e} {w = w} p r = let u = p .runs (howIn w₀) refl (r .ready) in both e (u .ready) (u .tables)
+  where
+    both : {B : Type 0} (z : Ending B) → Kept z (Ready (g (howIn w₀)) w (countsIn w)) → Kept z (tables w ≡ tables w₀) → Kept z (Remains g w₀ w)
+    both (ended v) i t = record { how = p .how; units = p .units; ready = record { ready = subst (λ (h : How). Ready (g h) w (countsIn w)) (sym (p .how)) i }; tables = t }
+    both (short (some y)) i t = record { how = p .how; units = p .units; ready = record { ready = subst (λ (h : How). Ready (g h) w (countsIn w)) (sym (p .how)) i }; tables = t }
+    both (short none) i t = tt
+
 -- ---- what is put in the registers
 
 pub beside-after : {A : Type 0} {g : How → Given} {m : Scene → Act A} {w₀ o₀ : List ℕ} {e : Ending A} {w w′ o : List ℕ} → Beside w w′ → Goes g m w₀ o₀ e w o → Goes g m w₀ o₀ e w′ o
 beside-after {A} {g} {m} {w₀} {o₀} {e} {w} {w′} {o} b p = record {
   how = b .how ∙ p .how;
+  units = ap unitsOf (b .counts) ∙ p .units;
   runs = λ h q r. subst (λ (a : Counts). Runs (g h) m w₀ o₀ (countsIn w₀) e w′ o a) (sym (b .counts)) (aside-after (b .aside) (p .runs h q r));
 }
 

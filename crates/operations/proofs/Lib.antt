@@ -1,5 +1,6 @@
 pub mod Registers
 pub mod Going
+pub mod Entering
 pub mod Standing
 pub mod Answering
 pub mod Asking

@@ -52,9 +52,9 @@ use Rattle.operations.specs.declared.names.Told.{Told}
 use Rattle.operations.specs.Registers.{countsIn, howIn, shortIn, toldIn, endIn, toldEnd, unitIn, didWrite}
 use Rattle.operations.specs.Going.{ReadyIn, Goes, Works}
 use Rattle.operations.specs.Steps.{Gives, GivesShort, Tells, IfSet, AtHand}
-use Rattle.operations.specs.Asking.{Sends, LoadsAt, AsksAddress, AsksSize, symbolVal, writeSymbol, WritesSymbol, Writes, Addresses}
+use Rattle.operations.specs.Asking.{Sends, LoadsAt, AsksAddress, AsksSize, symbolVal, writeSymbol, WritesSymbol, Writes, IfDeclared, Addresses}
 use Rattle.operations.proofs.Going.{goes, halts, acts, told, by-true, by-false, gives-goes, given-goes, tells-goes, short-goes}
-use Rattle.operations.proofs.Registers.{counts-same, how-same}
+use Rattle.operations.proofs.Registers.{counts-same, units-same, how-same}
 use Rattle.operations.proofs.Standing.{standing}
 use Rattle.operations.proofs.Asking.{asks-as, asks-goes, sends-asks}
 
@@ -229,7 +229,7 @@ reads-as E x = refl
 
 get-goes : {g : How → Given} (k : Scene → Option Val → Act Val) (n : ℕ) {v : Option Val} {w o : List ℕ} {e : Ending Val} {w′ o′ : List ℕ}
     → v ≡ find n (variablesIn (framePart w)) → Goes g (λ x. k x v) w o e w′ o′ → Goes g (λ x. get n done >>= k x) w o e w′ o′
-get-goes k n p r = record { how = r .how; runs = λ h e q. get-runs k n p (r .runs h e q) }
+get-goes k n p r = record { how = r .how; units = r .units; runs = λ h e q. get-runs k n p (r .runs h e q) }
 
 slot-here : (w : List ℕ) {x name : ℕ} {slot t : Slot} → name ≡ x → slot ≡ slotAs (find name (variablesIn (framePart w))) → slot ≡ t → t ≡ slotAs (find x (variablesIn (framePart w)))
 slot-here w en es p = sym p ∙ es ∙ ap (λ (y : ℕ). slotAs (find y (variablesIn (framePart w)))) en
@@ -329,6 +329,7 @@ set-told {g} {x} {name} {v} {c} {w} {w₁} {w′} {o} {r} en ec ch t =
     let tells : Tells w₁ (didWrite x v) r w′ = subst (λ (u : Val). Tells w₁ (didWrite x u) r w′) ec (subst (λ (j : ℕ). Tells w₁ (didWrite j c) r w′) en t) in
     let s : Goes g (λ y. set x v (done v)) w o (ended v) w₁ o = record {
       how = how-same w w₁ (sets .registers);
+      units = units-same w w₁ (sets .registers);
       runs = λ h e p. subst (λ (a : Counts). Runs (g h) (λ y. set x v (done v)) w o (countsIn w) (ended v) w₁ o a) (sym (counts-same w w₁ (sets .registers))) (set-runs v sets p);
     } in
     goes _ s (tells-goes tells)
@@ -389,13 +390,12 @@ val-var : (E : Env) (l : Term) (v : Val) → is Var l ≡ true → assignVal E l
 unfolding assignVal
 val-var E l v e = rw (e, assignVal)
 
-module _ {nodes symbols : List ℕ} {n : ℕ} {v : Val} {w o : List ℕ} {r : Bool} {name : ℕ} {d : Declaration} (fine : Fine nodes n) (kind : kindOf nodes n ≡ 1) (en : name ≡ refOf nodes n)
-    (ed : d ≡ declarationAs (declaredAt (tables w) name)) where
+module _ {nodes : List ℕ} {n : ℕ} {v : Val} {w : List ℕ} {name : ℕ} (fine : Fine nodes n) (kind : kindOf nodes n ≡ 1) (en : name ≡ refOf nodes n) where
   -- a run of what is written with the type that the tables tell
-  from-declared : {w′ o′ : List ℕ} (z : Option Ty) → z ≡ declaredAt (tables w) name → ((regions : List ℕ) → Goes (given nodes symbols regions) (λ x. andTold (refOf nodes n) (writeAs (refOf nodes n) v z)) w o (toldEnd r w′) w′ o′)
+  from-declared : {r : Bool} {symbols o w′ o′ : List ℕ} (z : Option Ty) → z ≡ declaredAt (tables w) name → ((regions : List ℕ) → Goes (given nodes symbols regions) (λ x. andTold (refOf nodes n) (writeAs (refOf nodes n) v z)) w o (toldEnd r w′) w′ o′)
       → Writes nodes symbols n v w o r w′ o′
   unfolding look
-  from-declared {w′} {o′} z ez f = record { goes = go }
+  from-declared {r} {symbols} {o} {w′} {o′} z ez f = record { goes = go }
     where
       go : (regions : List ℕ) (t : Tree) → Stands nodes n t → Goes (given nodes symbols regions) (λ x. assignVal (x .env) (look (x .env) t) v) w o (toldEnd r w′) w′ o′
       go regions _ (stands {ts = ts} i h) =
@@ -404,8 +404,33 @@ module _ {nodes symbols : List ℕ} {n : ℕ} {v : Val} {w o : List ℕ} {r : Bo
           ∙ ap (andTold (refOf nodes n)) (writes-as (x .env) (refOf nodes n) v ∙ ap (writeAs (refOf nodes n) v) (sym (m .declared (refOf nodes n) (var-name kind fine)) ∙ ap (declaredAt (tables w)) (sym en) ∙ sym ez)))
           (f regions)
 
-  pub declared-writes : {t : Ty} {c : Val} {w₁ w′ : List ℕ} → d ≡ As t → c ≡ castTo v t → Changes w (setting name c) w₁ → Tells w₁ (didWrite name c) r w′ → Writes nodes symbols n v w o r w′ o
-  declared-writes {t} p ec ch e = from-declared (some t) (declared-as _ (sym p ∙ ed)) (λ regions. set-told en ec ch e)
+module _ {nodes : List ℕ} {n : ℕ} {v : Val} {w : List ℕ} {name : ℕ} {d : Declaration} (fine : Fine nodes n) (kind : kindOf nodes n ≡ 1) (en : name ≡ refOf nodes n)
+    (ed : d ≡ declarationAs (declaredAt (tables w) name)) where
+  declared-writes : {t : Ty} {c : Val} {r : Bool} {symbols o w₁ w′ : List ℕ} → d ≡ As t → c ≡ castTo v t → Changes w (setting name c) w₁ → Tells w₁ (didWrite name c) r w′ → Writes nodes symbols n v w o r w′ o
+  declared-writes {t} p ec ch e = from-declared fine kind en (some t) (declared-as _ (sym p ∙ ed)) (λ regions. set-told en ec ch e)
 
-  pub undeclared-writes : {w′ o′ : List ℕ} → d ≡ Nothing → WritesSymbol nodes symbols n v w o r w′ o′ → Writes nodes symbols n v w o r w′ o′
-  undeclared-writes p e = from-declared none (undeclared _ (sym p ∙ ed)) (λ regions. e .goes regions)
+  pub if-declared : {t : Ty} {c : Val} {r : Bool} {w₁ w′ : List ℕ} → d ≡ As t → c ≡ castTo v t → Changes w (setting name c) w₁ → Tells w₁ (didWrite name c) r w′ → IfDeclared nodes n v w r w′
+  if-declared {w′ = w′} p ec ch e = record {
+    yes = λ z symbols o. subst (λ (y : Bool). Writes nodes symbols n v w o y w′ o) z (declared-writes p ec ch e);
+    no = λ z. absurd (true≢false (sym (e .yes) ∙ z));
+  }
+
+  pub if-undeclared : d ≡ Nothing → IfDeclared nodes n v w false w
+  if-undeclared p = record { yes = λ z. absurd (true≢false (sym z)); no = λ _. (undeclared _ (sym p ∙ ed) ∙ ap (declaredAt (tables w)) en, refl) }
+
+-- one that is declared was assigned; one that is not is written as a symbol
+pub declared-written : {nodes symbols : List ℕ} {n : ℕ} {v : Val} {w w₁ o : List ℕ} {q : Bool} → IfDeclared nodes n v w q w₁ → q ≡ true → Writes nodes symbols n v w o true w₁ o
+declared-written {symbols = symbols} {o = o} d z = d .yes z symbols o
+
+module _ {nodes : List ℕ} {n : ℕ} {v : Val} {w : List ℕ} {q : Bool} {w₁ : List ℕ} (d : IfDeclared nodes n v w q w₁) (z : q ≡ false) where
+  pub undeclared-fit : Fit w (countsIn w .stored) → Fit w₁ (countsIn w₁ .stored)
+  undeclared-fit f = subst (λ (y : List ℕ). Fit y (countsIn y .stored)) (sym (d .no z .1)) f
+
+  pub undeclared-symbols : {symbols : List ℕ} → SymbolsRead nodes symbols (tables w) → SymbolsRead nodes symbols (tables w₁)
+  undeclared-symbols {symbols} s = subst (λ (y : List ℕ). SymbolsRead nodes symbols (tables y)) (sym (d .no z .1)) s
+
+pub symbol-writes : {nodes symbols : List ℕ} {n : ℕ} {v : Val} {w w₁ o : List ℕ} {q r : Bool} {w′ o′ : List ℕ} → Fine nodes n → kindOf nodes n ≡ 1 → IfDeclared nodes n v w q w₁ → q ≡ false
+    → WritesSymbol nodes symbols n v w₁ o r w′ o′ → Writes nodes symbols n v w o r w′ o′
+symbol-writes {nodes} {symbols} {n} {v} {w} {w₁} {o} {r = r} {w′ = w′} {o′ = o′} fine kind d z e =
+    let there : WritesSymbol nodes symbols n v w o r w′ o′ = subst (λ (y : List ℕ). WritesSymbol nodes symbols n v y o r w′ o′) (d .no z .1) e in
+    from-declared fine kind refl none (d .no z .0) (λ regions. there .goes regions)

@@ -12,8 +12,8 @@ use Rattle.workspace.specs.Post.{Aside, SetsWord, SetsValue}
 use Rattle.hosting.specs.declared.Counts.{Counts}
 use Rattle.hosting.specs.declared.How.{How}
 use Rattle.hosting.specs.declared.Short.{Short}
-use Rattle.hosting.specs.Held.{withAsked, withStored}
-use Rattle.operations.specs.Registers.{countsIn, howIn, shortIn, resultIn, toldIn, didBy}
+use Rattle.hosting.specs.Held.{withAsked, withRecorded, withStored}
+use Rattle.operations.specs.Registers.{countsIn, Units, unitsOf, howIn, shortIn, resultIn, toldIn, didBy}
 use Rattle.operations.specs.Going.{Beside}
 
 -- ---- where the part is the same
@@ -22,6 +22,9 @@ module _ (w w′ : List ℕ) (e : registersPart w′ ≡ registersPart w) where
   pub counts-same : countsIn w′ ≡ countsIn w
   unfolding countsIn
   counts-same = rw e
+
+  pub units-same : unitsOf (countsIn w′) ≡ unitsOf (countsIn w)
+  units-same = ap unitsOf counts-same
 
   pub how-same : howIn w′ ≡ howIn w
   unfolding howIn
@@ -42,9 +45,25 @@ module _ (w : List ℕ) where
   unfolding countsIn
   stored-word = refl
 
+  pub recorded-word : wordAt (registersPart w) 1 ≡ countsIn w .tally .recorded
+  unfolding countsIn
+  recorded-word = refl
+
   pub asked-word : wordAt (registersPart w) 2 ≡ countsIn w .tally .asked
   unfolding countsIn
   asked-word = refl
+
+  pub left-word : wordAt (registersPart w) 3 ≡ countsIn w .tally .left
+  unfolding countsIn
+  left-word = refl
+
+  pub entered-word : wordAt (registersPart w) 4 ≡ countsIn w .tally .entered
+  unfolding countsIn
+  entered-word = refl
+
+  pub steps-word : wordAt (registersPart w) 5 ≡ countsIn w .tally .steps
+  unfolding countsIn
+  steps-word = refl
 
   pub depth-word : wordAt (registersPart w) 6 ≡ howIn w .depth
   unfolding howIn
@@ -117,6 +136,18 @@ module _ {w : List ℕ} {x : ℕ} {w′ : List ℕ} where
 
   pub asked-how : SetsWord w 2 x w′ → howIn w′ ≡ howIn w
   asked-how h = how-before h (omega arith)
+
+  -- the cursor of the steps
+  pub recorded-set : SetsWord w 1 x w′ → countsIn w′ ≡ withRecorded x (countsIn w)
+  unfolding countsIn
+  recorded-set h = counts-by w′ (withRecorded x (countsIn w)) (at 0 (omega arith) (λ q. absurd (omega (arith, q)))) (h .here) (at 2 (omega arith) (λ q. absurd (omega (arith, q))))
+      (at 3 (omega arith) (λ q. absurd (omega (arith, q)))) (at 4 (omega arith) (λ q. absurd (omega (arith, q)))) (at 5 (omega arith) (λ q. absurd (omega (arith, q))))
+    where
+      at : (j : ℕ) → j < wordCount → (j ≡ 1 → ⊥) → wordAt (registersPart w′) j ≡ wordAt (registersPart w) j
+      at = h .words
+
+  pub recorded-how : SetsWord w 1 x w′ → howIn w′ ≡ howIn w
+  recorded-how h = how-before h (omega arith)
 
   pub stored-set : SetsWord w 0 x w′ → countsIn w′ ≡ withStored x (countsIn w)
   unfolding countsIn

@@ -53,7 +53,7 @@ use Rattle.hosting.proofs.Running as running
 use Rattle.hosting.proofs.Shapes.{room, same-kind, var-name, address-kid, arg-here, args-more, args-few}
 use Rattle.hosting.proofs.Keeping.{kept-ready}
 use Rattle.operations.proofs.Going.{done-goes, goes, acts, told, by-true, beside-after}
-use Rattle.operations.proofs.Registers.{counts-same, how-same, depth-word}
+use Rattle.operations.proofs.Registers.{counts-same, units-same, how-same, depth-word}
 use Rattle.operations.proofs.Asking.{sends-asks, asks-goes}
 use Rattle.operations.proofs.Naming.{declared-as, undeclared}
 
@@ -113,6 +113,7 @@ module _ {nodes vals : List ℕ} {count n k : ℕ} {w o : List ℕ} (p : k ≡ k
             let r = f symbols regions vs v in
             record {
               how = r .how;
+              units = r .units;
               runs = λ how e q. running.acts
                   (λ x m. follow-name (x .env) (look (x .env) (tree (nodeAt nodes n) ts)) vs (eq-eqb _ _ (sym p ∙ k4))
                   ∙ ap (λ (z : (name address : ℕ) → List Val → Act (Option Val)). z (refOf nodes n) (valueOf nodes n) vs) (m .follow)
@@ -416,6 +417,7 @@ module _ {nodes : List ℕ} (symbols regions : List ℕ) {n e : ℕ} {w w′ o :
   taken-goes : Goes (given nodes symbols regions) (λ x. takeAct (x .env) (looks (x .env) ts)) w o (ended nothing) w′ o
   taken-goes = record {
     how = how-same w w′ (t .registers);
+    units = units-same w w′ (t .registers);
     runs = λ how _ p. subst (λ (a : Counts). Runs (given nodes symbols regions how) (λ x. takeAct (x .env) (looks (x .env) ts)) w o (countsIn w) (ended nothing) w′ o a) (sym (counts-same w w′ (t .registers))) (take-runs t h p);
   }
 

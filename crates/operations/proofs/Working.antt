@@ -27,10 +27,10 @@ use Rattle.hosting.specs.Held.{Held, held, codeHost, withView, withStored}
 use Rattle.hosting.specs.Ending.{Ending, ended, short, shortOf}
 use Rattle.hosting.specs.Runs.{Runs}
 use Rattle.hosting.proofs.Keeping.{kept-ready}
-use Rattle.operations.specs.Registers.{countsIn, howIn, shortIn, resultIn, toldEnd, unitIn}
+use Rattle.operations.specs.Registers.{countsIn, unitsOf, howIn, shortIn, resultIn, toldEnd, unitIn}
 use Rattle.operations.specs.Going.{Works}
 use Rattle.operations.specs.Steps.{GivesShort, Tells, storeThrough, storeField}
-use Rattle.operations.proofs.Registers.{how-same, does-counts, does-how, stored-word, result-value, stored-set, stored-how}
+use Rattle.operations.proofs.Registers.{units-same, how-same, does-counts, does-how, stored-word, result-value, stored-set, stored-how}
 use Rattle.operations.proofs.Going.{goes, halts, acts, told, aside-after, by-true, by-false, tells-goes, short-goes}
 
 -- with as many entries as the registers say
@@ -61,6 +61,7 @@ unfolding held
 pokes-works {w} {w₁} {w′} {n} address bs d s = record {
   goes = λ g o. record {
     how = stored-how s ∙ does-how d;
+    units = ap unitsOf (stored-set s ∙ ap (withStored n) (does-counts d));
     runs = λ h _ p.
         let a = withStored n (countsIn w) in
         let there : Runs (g h) (λ x. pokes address bs) w o (countsIn w) (ended tt) w₁ o a = record {
@@ -72,11 +73,12 @@ pokes-works {w} {w₁} {w′} {n} address bs d s = record {
   };
 }
 
-pokes-full : {w w′ : List ℕ} (address : ℕ) (bs : List ℕ) → limit < length (stores address bs (view w (countsIn w .stored) .memory)) → howIn w′ ≡ howIn w → Works (pokes address bs) w (short none) w′
+pokes-full : {w w′ : List ℕ} (address : ℕ) (bs : List ℕ) → limit < length (stores address bs (view w (countsIn w .stored) .memory)) → howIn w′ ≡ howIn w → unitsOf (countsIn w′) ≡ unitsOf (countsIn w) → Works (pokes address bs) w (short none) w′
 unfolding held
-pokes-full {w} address bs l e = record {
+pokes-full {w} address bs l e u = record {
   goes = λ g o. record {
     how = e;
+    units = u;
     runs = λ h _ p. record {
       ready = tt;
       came = λ x m. subst (λ (z : End (Unit {0}) × Held). limit < length (z .1 .view .memory)) (sym (pokes-hosted (x .world) (g h .how .second) bs address (held w o (countsIn w)))) l;
@@ -104,7 +106,7 @@ module _ (w : List ℕ) (address : ℕ) (v : Val) where
     pub value-full : (r : Bool) (w′ : List ℕ) → s ≡ Full → GivesShort w₁ (record { reason = 0; number = 0 }) r w′ → Works (storeVal address v) w (unitIn r w′) w′
     value-full r w′ f p =
         let full : StoresCells w (countsIn w .stored) address (le (v .bits / 8) (v .number)) w₁ Full = subst (StoresCells w (countsIn w .stored) address (le (v .bits / 8) (v .number)) w₁) f here in
-        works-as (store-known address v k) (by-false tt (p .no) (p .why)) (pokes-full address (le (v .bits / 8) (v .number)) (full .0) (p .beside .how ∙ how-same w w₁ (full .2)))
+        works-as (store-known address v k) (by-false tt (p .no) (p .why)) (pokes-full address (le (v .bits / 8) (v .number)) (full .0) (p .beside .how ∙ how-same w w₁ (full .2)) (ap unitsOf (p .beside .counts) ∙ units-same w w₁ (full .2)))
 
 -- ---- through a pointer, and a field
 

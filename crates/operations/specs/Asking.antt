@@ -1,6 +1,6 @@
 -- What the operations ensure that ask the world: loads, and names that may be symbols. Assumes nothing.
 use mathlib.Core.Path.{_≡_}
-use mathlib.Core.Bool.{Bool, true, not}
+use mathlib.Core.Bool.{Bool, true, false, not}
 use mathlib.Core.List.{List}
 use mathlib.Core.Option.{none, some}
 use Prim.Native.Nat.{ℕ}
@@ -20,13 +20,14 @@ use Rattle.definition.specs.Evaluate.{Env, widthIn, typeOr, look, addressVal, a
 use Rattle.stream.specs.Stream.{placed, advanced}
 use Rattle.stream.specs.Pieces.{optional}
 use Rattle.workspace.specs.Parts.{tables, questionsPart}
+use Rattle.workspace.specs.Types.{declaredAt}
 use Rattle.workspace.specs.Post.{Kept}
 use Rattle.hosting.specs.declared.How.{How}
 use Rattle.operations.specs.declared.names.Told.{Told}
 use Rattle.hosting.specs.Scene.{Given, given, Scene, Meant}
 use Rattle.hosting.specs.Held.{held, asked, withAsked}
 use Rattle.hosting.specs.Stands.{Stands}
-use Rattle.operations.specs.Registers.{countsIn, howIn, endIn, toldEnd, didWrite}
+use Rattle.operations.specs.Registers.{countsIn, unitsOf, howIn, endIn, toldEnd, didWrite}
 use Rattle.operations.specs.Going.{Goes}
 
 -- ---- questions
@@ -46,6 +47,7 @@ pub record Asks (g : How → Given) (κ : Asked) (q : Question κ) (y : Answer �
   pub answer : (h : How) (x : Scene) → Meant (g h) x (tables w) → x .world κ (cut κ q) ≡ y
   pub held : held w′ o′ (countsIn w′) ≡ asked (howIn w .second) (κ, (cut κ q, y)) (held w o (countsIn w))
   pub stored : countsIn w′ .stored ≡ countsIn w .stored
+  pub units : unitsOf (countsIn w′) ≡ unitsOf (countsIn w)
   pub how : howIn w′ ≡ howIn w
   pub tables : tables w′ ≡ tables w
 
@@ -91,6 +93,11 @@ pub record WritesSymbol (nodes symbols : List ℕ) (n : ℕ) (v : Val) (w₀ o�
 -- the variable at node n is written
 pub record Writes (nodes symbols : List ℕ) (n : ℕ) (v : Val) (w₀ o₀ : List ℕ) (r : Bool) (w o : List ℕ) : Type 0 where
   pub goes : (regions : List ℕ) (t : Tree) → Stands nodes n t → Goes (given nodes symbols regions) (λ x. assignVal (x .env) (look (x .env) t) v) w₀ o₀ (toldEnd r w) w o
+
+-- it is assigned, if it is declared; else nothing is done
+pub record IfDeclared (nodes : List ℕ) (n : ℕ) (v : Val) (w : List ℕ) (r : Bool) (w′ : List ℕ) : Type 0 where
+  pub yes : r ≡ true → (symbols o : List ℕ) → Writes nodes symbols n v w o true w′ o
+  pub no : r ≡ false → (none ≡ declaredAt (tables w) (refOf nodes n)) × (w′ ≡ w)
 
 -- the address of what is at node n
 pub record Addresses (nodes symbols : List ℕ) (n : ℕ) (w₀ o₀ : List ℕ) (r : Bool) (w o : List ℕ) : Type 0 where

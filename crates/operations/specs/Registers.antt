@@ -27,6 +27,15 @@ countsIn w = record {
   };
 }
 
+-- the units that are left, and those spent on blocks and on statements
+pub record Units : Type 0 where
+  pub left : ℕ
+  pub entered : ℕ
+  pub steps : ℕ
+
+abbrev pub unitsOf : Counts → Units
+unitsOf a = record { left = a .tally .left; entered = a .tally .entered; steps = a .tally .steps }
+
 unfoldable pub howIn : List ℕ → How
 howIn w = record { depth = wordAt (registersPart w) 6; regions = wordAt (registersPart w) 7; second = boolOf (wordAt (registersPart w) 8) }
 

@@ -25,8 +25,6 @@ use Rattle.workspace.specs.Post.{Aside}
 use Rattle.hosting.specs.declared.How.{How}
 use Rattle.hosting.specs.declared.Counts.{Counts}
 use Rattle.hosting.specs.declared.Short.{Short}
-use Rattle.hosting.specs.declared.Evaluated.{Evaluated}
-use Rattle.hosting.specs.declared.Executed.{Executed}
 use Rattle.operations.specs.declared.places.Target.{Target}
 use Rattle.hosting.specs.Scene.{Given}
 use Rattle.hosting.specs.Stands.{Stands, FieldsAt}
@@ -78,34 +76,12 @@ pub record EntersHow (w : List ℕ) (h : How) (w′ : List ℕ) : Type 0 where
   pub counts : countsIn w′ ≡ countsIn w
   pub how : howIn w′ ≡ h
 
-pub record Leaves (w : List ℕ) (ok : Bool) (r : Evaluated) : Type 0 where
-  pub at : r .at ≡ countsIn w
-  pub ends : endOf (r .outcome) ≡ endIn ok w
-
-pub record LeavesTold (w : List ℕ) (ok : Bool) (q : Executed) : Type 0 where
-  pub at : q .at ≡ countsIn w
-  pub ends : doneOf (q .outcome) ≡ toldEnd ok w
-
--- of one that did not end short
-pub record LeavesDid (w : List ℕ) (a : Counts) (q : Executed) : Type 0 where
-  pub at : q .at ≡ a
-  pub ends : doneOf (q .outcome) ≡ ended (toldIn w)
-
--- no variable is written, and a note
-pub record TellsNote (a : Counts) (y : host.Note) (q : Executed) : Type 0 where
-  pub at : q .at ≡ a
-  pub ends : doneOf (q .outcome) ≡ ended (did (noteOf y))
-
 -- of a statement of a kind that is no Assign, whose value is v: a Call or an Intrinsic may have a note
 abbrev pub noted : ℕ → Val → Pending → Note
 noted kind v p = elim (eqb kind 14 || eqb kind 15) [ true ↦ unknownNote v p | false ↦ noNote ]
 
 abbrev pub notedEnd : ℕ → Bool → List ℕ → Ending Did
 notedEnd kind ok w = endBy ok (did (noted kind (resultIn w) (pendingIn (notePart w)))) (shortIn w)
-
-pub record LeavesNoted (w : List ℕ) (kind : ℕ) (ok : Bool) (q : Executed) : Type 0 where
-  pub at : q .at ≡ countsIn w
-  pub ends : doneOf (q .outcome) ≡ notedEnd kind ok w
 
 -- ---- fields
 

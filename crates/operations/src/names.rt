@@ -38,7 +38,7 @@ ghost use Rattle.hosting.specs.Stands.{Fine};
 ghost use Rattle.operations.specs.Registers.{countsIn, endIn};
 ghost use Rattle.operations.specs.Going.{ReadyIn, Goes};
 ghost use Rattle.operations.specs.Steps.{Gives, IfSet, AtHand};
-ghost use Rattle.operations.specs.Asking.{Sends, AsksAddress, AsksSize, symbolVal, Addresses, WritesSymbol, Writes};
+ghost use Rattle.operations.specs.Asking.{Sends, AsksAddress, AsksSize, symbolVal, Addresses, WritesSymbol, Writes, IfDeclared};
 
 // ---- the world's symbols
 
@@ -249,7 +249,7 @@ pub fn address(nodes: &[u8], symbols: &[u8], ws: &mut [u8], out: &mut [u8], n: u
 // ---- what is written
 
 // A name that is not declared is written: its symbol at its width, else the variable as it is.
-fn write_symbol(
+pub fn write_symbol(
     nodes: &[u8],
     symbols: &[u8],
     ws: &mut [u8],
@@ -282,13 +282,12 @@ fn write_symbol(
     wrote(ws, name, c)
 }
 
-// The variable at node n is assigned: one that is declared, with its type.
-pub fn write(nodes: &[u8], symbols: &[u8], ws: &mut [u8], out: &mut [u8], n: usize, v: Val) -> bool
-    requires { ⌜ Fit (now ws) (countsIn (now ws) .stored) ⌝ }
-    requires { ⌜ SymbolsRead (now nodes) (now symbols) (tables (now ws)) ⌝ }
+// The variable at node n is assigned with its type, if it is declared; else nothing is done.
+pub fn write_declared(nodes: &[u8], ws: &mut [u8], n: usize, v: Val) -> bool
+    requires { ⌜ workspaceSize ≤ length (now ws) ⌝ }
     requires { ⌜ Fine (now nodes) n ⌝ }
     requires { ⌜ kindOf (now nodes) n ≡ 1 ⌝ }
-    ensures { λ r. ⌜ Writes (now (nodes .entry)) (now (symbols .entry)) n v (now (ws .entry)) (now (out .entry)) r (now (ws .exit)) (now (out .exit)) ⌝ }
+    ensures { λ r. ⌜ IfDeclared (now (nodes .entry)) n v (now (ws .entry)) r (now (ws .exit)) ⌝ }
 {
     let name = nodes::reference(nodes, n);
     let declaration = types::declared(ws, name);
@@ -298,6 +297,20 @@ pub fn write(nodes: &[u8], symbols: &[u8], ws: &mut [u8], out: &mut [u8], n: usi
             variables::set_variable(ws, name, c);
             wrote(ws, name, c)
         }
-        Declaration::Nothing => write_symbol(nodes, symbols, ws, out, n, v),
+        Declaration::Nothing => false,
     }
+}
+
+// The variable at node n is assigned: one that is declared, with its type.
+pub fn write(nodes: &[u8], symbols: &[u8], ws: &mut [u8], out: &mut [u8], n: usize, v: Val) -> bool
+    requires { ⌜ Fit (now ws) (countsIn (now ws) .stored) ⌝ }
+    requires { ⌜ SymbolsRead (now nodes) (now symbols) (tables (now ws)) ⌝ }
+    requires { ⌜ Fine (now nodes) n ⌝ }
+    requires { ⌜ kindOf (now nodes) n ≡ 1 ⌝ }
+    ensures { λ r. ⌜ Writes (now (nodes .entry)) (now (symbols .entry)) n v (now (ws .entry)) (now (out .entry)) r (now (ws .exit)) (now (out .exit)) ⌝ }
+{
+    if write_declared(nodes, ws, n, v) {
+        return true;
+    }
+    write_symbol(nodes, symbols, ws, out, n, v)
 }

@@ -3,8 +3,6 @@ use files::nodes;
 use hosting::Counts;
 use hosting::Did;
 use hosting::Done;
-use hosting::Evaluated;
-use hosting::Executed;
 use hosting::How;
 use hosting::Note;
 use hosting::Outcome;
@@ -19,8 +17,9 @@ ghost use lib.ListN.{length};
 ghost use Rattle.definition.specs.Act.{fieldsWritten, valueWritten};
 ghost use Rattle.definition.specs.Evaluate.{did};
 ghost use Rattle.workspace.specs.Parts.{workspaceSize};
-ghost use Rattle.operations.specs.Registers.{countsIn, shortIn, didWrite};
-ghost use Rattle.operations.specs.Steps.{Gives, GivesShort, Tells, Enters, Leaves, LeavesTold, LeavesNoted, TellsNote, EntersCounts, EntersHow, LeavesDid};
+ghost use Rattle.hosting.specs.Ending.{ended, endOf, doneOf, noteOf};
+ghost use Rattle.operations.specs.Registers.{countsIn, shortIn, didWrite, toldIn, endIn, toldEnd};
+ghost use Rattle.operations.specs.Steps.{Gives, GivesShort, Tells, Enters, EntersCounts, EntersHow, notedEnd};
 
 // The words of the registers: the counts of the run and how it goes.
 pub const STORED: usize = 0;
@@ -144,7 +143,8 @@ fn enter_how(ws: &mut [u8], how: How)
     registers::set_word(ws, SECOND, how.second as u64);
 }
 
-fn counts(ws: &[u8]) -> Counts
+// The counts as they stand.
+pub fn counts(ws: &[u8]) -> Counts
     requires { ⌜ workspaceSize ≤ length (now ws) ⌝ }
     ensures { λ r. ⌜ r ≡ countsIn (now (ws .entry)) ⌝ }
 {
@@ -172,99 +172,78 @@ fn short(ws: &[u8]) -> Short
 }
 
 // What an evaluation came to.
-pub fn evaluated(ws: &[u8], ok: bool) -> Evaluated
+pub fn outcome(ws: &[u8], ok: bool) -> Outcome
     requires { ⌜ workspaceSize ≤ length (now ws) ⌝ }
-    ensures { λ r. ⌜ Leaves (now (ws .entry)) ok r ⌝ }
+    ensures { λ r. ⌜ endOf r ≡ endIn ok (now (ws .entry)) ⌝ }
 {
-    let at = counts(ws);
     if ok {
         let v = registers::value(ws, RESULT);
-        Evaluated {
-            outcome: Outcome::Is(v),
-            at,
-        }
+        Outcome::Is(v)
     } else {
         let s = short(ws);
-        Evaluated {
-            outcome: Outcome::Ends(s),
-            at,
-        }
+        Outcome::Ends(s)
     }
 }
 
 // What wrote no variable, with a note.
-fn notes(note: Note, at: Counts) -> Executed
-    ensures { λ r. ⌜ TellsNote at note r ⌝ }
+fn notes(note: Note) -> Done
+    ensures { λ r. ⌜ doneOf r ≡ ended (did (noteOf note)) ⌝ }
 {
     let value = Val::unknown(64, true);
-    Executed {
-        outcome: Done::Does(Did {
-            wrote: false,
-            name: 0,
-            value,
-            note,
-        }),
-        at,
-    }
+    Done::Does(Did {
+        wrote: false,
+        name: 0,
+        value,
+        note,
+    })
 }
 
 // What an Assign that did not end short told.
-fn told(ws: &[u8], at: Counts) -> Executed
+fn told(ws: &[u8]) -> Done
     requires { ⌜ workspaceSize ≤ length (now ws) ⌝ }
-    ensures { λ r. ⌜ LeavesDid (now (ws .entry)) at r ⌝ }
+    ensures { λ r. ⌜ doneOf r ≡ ended (toldIn (now (ws .entry))) ⌝ }
 {
     let place = registers::word(ws, WHERE);
     let value = registers::value(ws, WROTE);
     let told = registers::word(ws, TOLD);
     match told {
-        0 => Executed {
-            outcome: Done::Does(Did {
-                wrote: true,
-                name: place as usize,
-                value,
-                note: Note::Nothing,
-            }),
-            at,
-        },
-        1 => notes(Note::Fields(place, registers::word(ws, FIELDS)), at),
-        _ => notes(Note::Written(place, value), at),
+        0 => Done::Does(Did {
+            wrote: true,
+            name: place as usize,
+            value,
+            note: Note::Nothing,
+        }),
+        1 => notes(Note::Fields(place, registers::word(ws, FIELDS))),
+        _ => notes(Note::Written(place, value)),
     }
 }
 
 // What an Assign came to.
-pub fn executed(ws: &[u8], ok: bool) -> Executed
+pub fn executed(ws: &[u8], ok: bool) -> Done
     requires { ⌜ workspaceSize ≤ length (now ws) ⌝ }
-    ensures { λ r. ⌜ LeavesTold (now (ws .entry)) ok r ⌝ }
+    ensures { λ r. ⌜ doneOf r ≡ toldEnd ok (now (ws .entry)) ⌝ }
 {
-    let at = counts(ws);
     if ok {
-        return told(ws, at);
+        return told(ws);
     }
     let s = short(ws);
-    Executed {
-        outcome: Done::Fails(s),
-        at,
-    }
+    Done::Fails(s)
 }
 
 // What a statement came to that is no Assign: a Call or an Intrinsic whose value is unknown is noted, unless a call left a note.
-pub fn noted(ws: &[u8], kind: u8, ok: bool) -> Executed
+pub fn noted(ws: &[u8], kind: u8, ok: bool) -> Done
     requires { ⌜ workspaceSize ≤ length (now ws) ⌝ }
-    ensures { λ r. ⌜ LeavesNoted (now (ws .entry)) kind ok r ⌝ }
+    ensures { λ r. ⌜ doneOf r ≡ notedEnd kind ok (now (ws .entry)) ⌝ }
 {
-    let at = counts(ws);
     if !ok {
         let s = short(ws);
-        return Executed {
-            outcome: Done::Fails(s),
-            at,
-        };
+        return Done::Fails(s);
     }
     let v = registers::value(ws, RESULT);
     let called = (kind == nodes::CALL) | (kind == nodes::INTRINSIC);
     if called & !v.known & !note::has_note(ws) {
-        notes(Note::Unknown, at)
+        notes(Note::Unknown)
     } else {
-        notes(Note::Nothing, at)
+        notes(Note::Nothing)
     }
 }

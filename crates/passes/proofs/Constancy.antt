@@ -22,7 +22,7 @@ use Rattle.definition.proofs.Hosts.{Alike}
 use Rattle.workspace.specs.View.{view, Fit}
 use Rattle.stream.specs.Stream.{most}
 use Rattle.hosting.specs.declared.Counts.{Counts}
-use Rattle.hosting.specs.declared.Evaluated.{Evaluated}
+use Rattle.hosting.specs.declared.Outcome.{Outcome}
 use Rattle.hosting.specs.Stands.{Stands, Fine}
 use Rattle.hosting.specs.Scene.{Given, given, Scene, Ready}
 use Rattle.hosting.specs.Held.{Held, held}
@@ -30,6 +30,9 @@ use Rattle.hosting.specs.Ending.{Ending, ended, short, endOf}
 use Rattle.hosting.specs.Runs.{Came, Kept}
 use Rattle.hosting.specs.Setting.{howOf, constantGiven, ConstantTabled}
 use Rattle.hosting.proofs.Shapes.{fine}
+use Rattle.operations.specs.Registers.{countsIn}
+use Rattle.operations.specs.Steps.{Enters}
+use Rattle.operations.proofs.Entering.{enters-runs}
 use Rattle.machine.specs.Post.{Evals}
 use Rattle.passes.specs.Passing.{startCounts}
 use Rattle.passes.specs.Evaluating.{EvaluatedIf, Evaluates}
@@ -71,16 +74,17 @@ module _ (old : List ℕ) (o : Out Val) where
   came p (short (some y)) g w out a l c f = held-few w out a p (stopped y) l c (f .fit)
   came p (short none) g w out a l c f = subst (λ (m : Overlay Cell). addressLimit < length m) (l .state .memory) c
 
-pub evaluates : (routine : List ℕ) (n count : ℕ) (w w′ old out nodes : List ℕ) (a : Counts) (r : Evaluated) → length old < most → length w < 2 ^ 64 → nodes ≡ body routine 3 → a ≡ startCounts 10000
-    → Stands (body routine 3) n (treeAt (body routine 3) n) → ConstantTabled routine w count → Evals (given nodes [] [] (howOf 0 count false)) n w old a r w′ out → Evaluates (constantRun routine n) (endOf (r .outcome))
+pub evaluates : (routine : List ℕ) (n count : ℕ) (w w₁ w′ old out nodes : List ℕ) (a : Counts) (r : Outcome) → length old < most → length w < 2 ^ 64 → nodes ≡ body routine 3 → a ≡ startCounts 10000
+    → Stands (body routine 3) n (treeAt (body routine 3) n) → ConstantTabled routine w count → Enters w (howOf 0 count false) a w₁ → Evals nodes [] [] n w₁ old r w′ out → Evaluates (constantRun routine n) (endOf r)
 unfolding constantRun held
-evaluates routine n count w w′ old out nodes a r room long p q h t v =
-    let u : Evals (constantGiven routine count) n w old (startCounts 10000) r w′ out = rw (p, q) at v in
-    let runs = u .runs (treeAt (body routine 3) n) h in
+evaluates routine n count w w₁ w′ old out nodes a r room long p q h t en v =
+    let u : Evals (body routine 3) [] [] n w₁ old r w′ out = rw p at v in
+    let start : Enters w (howOf 0 count false) (startCounts 10000) w₁ = rw q at en in
+    let runs = enters-runs start (eval-ready refl refl t) (u .goes (treeAt (body routine 3) n) h) in
     let x : Scene = record { env = constantEnv (programOf routine); world = nothing } in
     let here = runs .came x (t .meant) in
     let s = held w old (startCounts 10000) in
     record {
-      comes = came old (constantRun routine n) _ (endOf (r .outcome)) (constantGiven routine count) w′ out (r .at)
+      comes = came old (constantRun routine n) _ (endOf r) (constantGiven routine count) w′ out (countsIn w′)
           (ends-alike false old nothing (eval (look (constantEnv (programOf routine)) (treeAt (body routine 3) n))) 10000 [] s room (questions-short w long) (t .holds) refl refl) here (runs .ready);
     }

@@ -12,6 +12,7 @@ use files::call::Limits;
 use files::table::body;
 use hosting::How;
 use hosting::Outcome;
+use operations::results;
 
 // The expression at node n is evaluated, in a workspace that is set up.
 fn evaluate_in(routine: &[u8], n: usize, ws: &mut [u8], regions: usize) -> Outcome
@@ -28,8 +29,8 @@ fn evaluate_in(routine: &[u8], n: usize, ws: &mut [u8], regions: usize) -> Outco
         second: false,
     };
     let at = super::no_counts(Limits::STEPS as u64);
-    let r = machine::eval(nodes, none, none, ws, &mut out, how, n, at);
-    r.outcome
+    results::enter(ws, how, at);
+    machine::eval(nodes, none, none, ws, &mut out, n)
 }
 
 pub fn evaluate(routine: &[u8], n: usize, ws: &mut [u8]) -> Outcome

@@ -10,8 +10,8 @@ use borrow.Author.Tests.{eq-eqb, ne-eqb}
 use lib.ListN.{length}
 use Rattle.value.specs.declared.Val.{Val}
 use Rattle.layout.specs.Number.{numberAt}
-use Rattle.files.specs.Program.{Case, caseOf, Statement, listed, caseAt, statementAt}
-use Rattle.definition.specs.Act.{Why, branchUnknown, switchUnknown, noCase, gave, stopped}
+use Rattle.files.specs.Program.{Case, caseOf, Statement, listed, statementAt}
+use Rattle.definition.specs.Act.{End, Why, branchUnknown, switchUnknown, noCase, gave, stopped}
 use Rattle.definition.specs.Statements as statements
 use Rattle.definition.specs.Walk as walk
 use Rattle.index.specs.declared.Maybe.{Maybe}
@@ -25,16 +25,14 @@ use Rattle.hosting.specs.declared.Short.{Short}
 use Rattle.hosting.specs.declared.Stop.the-variants.{Unknown}
 use Rattle.hosting.specs.declared.Outcome.{Outcome}
 use Rattle.hosting.specs.declared.Outcome.the-variants.{Is, Ends}
-use Rattle.hosting.specs.declared.Evaluated.{Evaluated}
-use Rattle.hosting.specs.Ending.{ended, short, shortOf, endOf}
+use Rattle.hosting.specs.Ending.{Ending, ended, short, shortOf, endOf}
 use Rattle.hosting.specs.Walking.{unknownEnd}
 use Rattle.statements.specs.declared.terminators.Next.the-variants.{Stops, Goes}
 use Rattle.statements.specs.declared.terminators.Lead.{Lead}
 use Rattle.statements.specs.declared.terminators.Lead.the-variants.{To, Fails}
-use Rattle.statements.specs.declared.terminators.Led.{Led}
 use Rattle.statements.specs.Endings.{endEnd, bindEnd, triedEnd, leadEnd, stopsEnd}
 use Rattle.statements.specs.Placing.{Dealt}
-use Rattle.statements.specs.Post.{branches, switches, Taken, Chosen, statementsAt, LastIs, AddressIs, Leads}
+use Rattle.statements.specs.Post.{branches, switches, statementsAt, LastIs, AddressIs, Leads}
 
 -- ---- a Branch's value
 
@@ -75,18 +73,12 @@ module _ (root : ℕ) (cases : List Case) (v : Val) where
 
 -- ---- with the evaluation's end
 
-pub taken-is : {root taken next : ℕ} {e : Evaluated} {v : Val} {l : Lead} → e .outcome ≡ Is v → leadEnd l ≡ endEnd (branches root taken next v) → Taken root taken next e (record { lead = l; at = e .at })
-taken-is {root} {taken} {next} h q = record { at = refl; is = q ∙ sym (ap (λ (o : Outcome). bindEnd (branches root taken next) (endOf o)) h) }
+module _ (k : Val → End ℕ) {e : Outcome} where
+  pub led-is : {v : Val} {l : Ending ℕ} → e ≡ Is v → l ≡ endEnd (k v) → l ≡ bindEnd k (endOf e)
+  led-is h q = q ∙ sym (ap (λ (o : Outcome). bindEnd k (endOf o)) h)
 
-pub taken-ends : {root taken next : ℕ} {e : Evaluated} {s : Short} → e .outcome ≡ Ends s → Taken root taken next e (record { lead = Fails s; at = e .at })
-taken-ends {root} {taken} {next} h = record { at = refl; is = sym (ap (λ (o : Outcome). bindEnd (branches root taken next) (endOf o)) h) }
-
-module _ {blocks : List ℕ} {start count root : ℕ} {e : Evaluated} where
-  pub chosen-is : {v : Val} {l : Lead} → e .outcome ≡ Is v → leadEnd l ≡ endEnd (switches root (listed (caseAt blocks (start + 24)) 0 count) v) → Chosen blocks start count root e (record { lead = l; at = e .at })
-  chosen-is h q = record { at = refl; is = q ∙ sym (ap (λ (o : Outcome). bindEnd (switches root (listed (caseAt blocks (start + 24)) 0 count)) (endOf o)) h) }
-
-  pub chosen-ends : {s : Short} → e .outcome ≡ Ends s → Chosen blocks start count root e (record { lead = Fails s; at = e .at })
-  chosen-ends h = record { at = refl; is = sym (ap (λ (o : Outcome). bindEnd (switches root (listed (caseAt blocks (start + 24)) 0 count)) (endOf o)) h) }
+  pub led-ends : {s : Short} → e ≡ Ends s → leadEnd (Fails s) ≡ bindEnd k (endOf e)
+  led-ends h = sym (ap (λ (o : Outcome). bindEnd k (endOf o)) h)
 
 -- ---- the last statement's address
 
@@ -119,10 +111,8 @@ address-last {ss} {blocks} {p} e l = record { is = λ nodes. l .is nodes ∙ ap 
 
 -- ---- what comes next
 
-pub leads-to : {ss blocks : List ℕ} {p : Place} {address : Maybe} {l : Led} {b : ℕ} → l .lead ≡ To b
-    → Leads ss blocks p address l (record { next = Goes (record { block = b; statement = 0; inside = false }); at = l .at })
+pub leads-to : {ss blocks : List ℕ} {p : Place} {address : Maybe} {l : Lead} {b : ℕ} → l ≡ To b → Leads ss blocks p address l (Goes (record { block = b; statement = 0; inside = false }))
 leads-to {ss} {blocks} {p} {address} h = record {
-  at = refl;
   is = λ nodes limit. ap (λ (z : Lead). triedEnd (walk.leftTo (walk.addressOr (optionOf address) (statementsAt nodes ss blocks p))) (leadEnd z)) (sym h);
   outside = refl;
 }
@@ -131,10 +121,8 @@ stop-led : (at at′ : Option ℕ) → at ≡ at′ → (y : Option Why) → sto
 stop-led at at′ e none = refl
 stop-led at at′ e (some y) = ap (λ (z : Option ℕ). ended (walk.stops (statements.Unknown z y))) e
 
-pub leads-short : {ss blocks : List ℕ} {p : Place} {address m : Maybe} {l : Led} {s : Short} → l .lead ≡ Fails s → AddressIs ss blocks p address m
-    → Leads ss blocks p address l (record { next = Stops (Unknown m s); at = l .at })
+pub leads-short : {ss blocks : List ℕ} {p : Place} {address m : Maybe} {l : Lead} {s : Short} → l ≡ Fails s → AddressIs ss blocks p address m → Leads ss blocks p address l (Stops (Unknown m s))
 leads-short {ss} {blocks} {p} {address} {m} {s = s} h a = record {
-  at = refl;
   is = λ nodes limit.
       stop-led (optionOf m) (walk.addressOr (optionOf address) (statementsAt nodes ss blocks p)) (a .is nodes) (shortOf s)
       ∙ ap (λ (z : Lead). triedEnd (walk.leftTo (walk.addressOr (optionOf address) (statementsAt nodes ss blocks p))) (leadEnd z)) (sym h);

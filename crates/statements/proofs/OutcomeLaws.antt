@@ -14,28 +14,25 @@ use Rattle.definition.specs.Act.{Act, done, gave, noNote, Why, _>>=_}
 use Rattle.definition.specs.Term.{Term, noTerms, moreTerms, eval, node, kids, kid, is}
 use Rattle.definition.specs.Evaluate.{Env, did, look, looks, execute}
 use Rattle.definition.specs.Statements.{Outcome, Returned, NoReturn, Halted, returnedAs, returning, isNamed, isHalted, outcome, outcomeOf}
-use Rattle.workspace.specs.Parts.{tables}
-use Rattle.hosting.specs.declared.Counts.{Counts}
 use Rattle.hosting.specs.declared.Facts.{Facts}
 use Rattle.hosting.specs.declared.Returns.{Returns}
 use Rattle.hosting.specs.declared.Short.{Short}
 use Rattle.hosting.specs.declared.Did.{Did}
+use Rattle.hosting.specs.declared.Outcome as outcome-is
 use Rattle.hosting.specs.declared.Outcome.the-variants.{Is, Ends}
+use Rattle.hosting.specs.declared.Done.{Done}
 use Rattle.hosting.specs.declared.Done.the-variants as done-is
-use Rattle.hosting.specs.declared.Evaluated.{Evaluated}
-use Rattle.hosting.specs.declared.Executed.{Executed}
 use Rattle.hosting.specs.Stands.{Stands, stands, Shape, a-leave, a-give, Fine}
-use Rattle.hosting.specs.Scene.{Given, Ready}
+use Rattle.hosting.specs.Scene.{given}
 use Rattle.hosting.specs.Routine.{returnsAs}
-use Rattle.hosting.specs.Ending.{Ending, ended, short, endOf, doneOf}
+use Rattle.hosting.specs.Ending.{ended, short, endOf, doneOf}
 use Rattle.hosting.specs.Walking.{unknownEnd}
-use Rattle.hosting.specs.Runs.{Kept, Runs}
-use Rattle.hosting.proofs.Running.{acts, told, done-runs}
 use Rattle.hosting.proofs.Shapes.{room, returned-kid}
+use Rattle.operations.specs.Going.{ReadyIn, Goes}
+use Rattle.operations.proofs.Going.{acts, told, done-goes, remains}
 use Rattle.machine.specs.Post.{Evals, Executes}
 use Rattle.statements.specs.declared.statements.Acts.{Acts}
 use Rattle.statements.specs.declared.statements.Acts.the-variants.{Does, Leaves, Gives as Giving, Strays, Halts as Halting, Fails}
-use Rattle.statements.specs.declared.statements.Acted.{Acted}
 use Rattle.statements.specs.declared.statements.Halt.{Halt}
 use Rattle.statements.specs.declared.statements.Sort.{Sort}
 use Rattle.statements.specs.declared.statements.Sort.the-variants.{Gives, Unreachable, Halts, Plain}
@@ -54,20 +51,17 @@ pub halt-unknown : (at : Option ℕ) (y : Option Why) → someEnd (unknownEnd at
 halt-unknown at none = refl
 halt-unknown at (some y) = refl
 
-pub gave-value : {returns : Returns} {e : Evaluated} {v u : Val} → e .outcome ≡ Is v → u ≡ returnsAs returns v → Gave returns e (record { outcome = Giving u; at = e .at })
-gave-value {returns} h g = record {
-  at = refl;
-  is = λ at. ap (λ (z : Val). ended (did noNote, some (Returned (some z)))) g ∙ sym (ap (λ o. bindEnd (λ v. gave (did noNote, some (Returned (some (returnsAs returns v))))) (endOf o)) h);
-}
+pub gave-value : {returns : Returns} {e : outcome-is.Outcome} {v u : Val} → e ≡ Is v → u ≡ returnsAs returns v → Gave returns e (Giving u)
+gave-value {returns} h g = record { is = λ at. ap (λ (z : Val). ended (did noNote, some (Returned (some z)))) g ∙ sym (ap (λ o. bindEnd (λ v. gave (did noNote, some (Returned (some (returnsAs returns v))))) (endOf o)) h) }
 
-pub gave-short : {returns : Returns} {e : Evaluated} {s : Short} → e .outcome ≡ Ends s → Gave returns e (record { outcome = Fails s; at = e .at })
-gave-short {returns} h = record { at = refl; is = λ at. sym (ap (λ o. bindEnd (λ v. gave (did noNote, some (Returned (some (returnsAs returns v))))) (endOf o)) h) }
+pub gave-short : {returns : Returns} {e : outcome-is.Outcome} {s : Short} → e ≡ Ends s → Gave returns e (Fails s)
+gave-short {returns} h = record { is = λ at. sym (ap (λ o. bindEnd (λ v. gave (did noNote, some (Returned (some (returnsAs returns v))))) (endOf o)) h) }
 
-pub done-does : {q : Executed} {d : Did} → q .outcome ≡ done-is.Does d → Executing q (record { outcome = Does d; at = q .at })
-done-does h = record { at = refl; is = λ at. sym (ap (λ o. bindEnd (λ d. gave (d, none)) (doneOf o)) h) }
+pub done-does : {q : Done} {d : Did} → q ≡ done-is.Does d → Executing q (Does d)
+done-does h = record { is = λ at. sym (ap (λ o. bindEnd (λ d. gave (d, none)) (doneOf o)) h) }
 
-pub done-fails : {q : Executed} {s : Short} → q .outcome ≡ done-is.Fails s → Executing q (record { outcome = Fails s; at = q .at })
-done-fails h = record { at = refl; is = λ at. sym (ap (λ o. bindEnd (λ d. gave (d, none)) (doneOf o)) h) }
+pub done-fails : {q : Done} {s : Short} → q ≡ done-is.Fails s → Executing q (Fails s)
+done-fails h = record { is = λ at. sym (ap (λ o. bindEnd (λ d. gave (d, none)) (doneOf o)) h) }
 
 -- ---- the definition's `outcome` by what the root is
 
@@ -132,58 +126,58 @@ halts-room so e = room (sorted-as e so .here .0)
 
 -- ---- runs
 
-module _ {g : Given} {f : Facts} {n : ℕ} {w o : List ℕ} {a : Counts} (ready : Ready g w a) where
+module _ {b symbols regions : List ℕ} {f : Facts} {n : ℕ} {w o : List ℕ} (ready : ReadyIn (given b symbols regions) w) where
   -- what is known without a run
-  at-once : {r : Acts} {s : Sort} (v : Option ℕ → Outcome) → ((at : Option ℕ) → actsEnd at r ≡ ended (v at)) → Sorted (g .nodes) f n s
-      → ((P : Program) (E : Env) (at : Option ℕ) (t : Tree) → Stands (g .nodes) n t → bySort P E at (look E t) s ≡ done (v at)) → Acting g f n w o a (record { outcome = r; at = a }) w o
-  at-once v e so d = record {
-    runs = λ P named at t h. told (e at) refl (acts (λ x m. outcome-sort P (x .env) at (look (x .env) t) ∙ ap (bySort P (x .env) at (look (x .env) t)) (so .is P named (x .env) t h) ∙ d P (x .env) at t h)
-        (done-runs (λ x. v at) (λ x m. refl) ready));
-    ready = subst (λ (z : Ending Outcome). Kept z (Ready g w a)) (sym (e none)) ready;
-    tables = subst (λ (z : Ending Outcome). Kept z (tables w ≡ tables w)) (sym (e none)) refl;
+  at-once : {q : Acts} {s : Sort} (v : Option ℕ → Outcome) → ((at : Option ℕ) → actsEnd at q ≡ ended (v at)) → Sorted b f n s
+      → ((P : Program) (E : Env) (at : Option ℕ) (t : Tree) → Stands b n t → bySort P E at (look E t) s ≡ done (v at)) → Acting b symbols regions f n w o q w o
+  at-once {q} v e so d = record {
+    goes = λ P named at t h.
+        acts (λ i x m. outcome-sort P (x .env) at (look (x .env) t) ∙ ap (bySort P (x .env) at (look (x .env) t)) (so .is P named (x .env) t h) ∙ d P (x .env) at t h) (run at);
+    remains = remains (run none) ready;
   }
+    where
+      run : (at : Option ℕ) → Goes (given b symbols regions) (λ x. done (v at)) w o (actsEnd at q) w o
+      run at = told (e at) (done-goes (λ x. v at) (λ i x m. refl))
 
-  pub acting-strays : {s : Sort} → Sorted (g .nodes) f n s → s ≡ Unreachable → Acting g f n w o a (record { outcome = Strays; at = a }) w o
+  pub acting-strays : {s : Sort} → Sorted b f n s → s ≡ Unreachable → Acting b symbols regions f n w o Strays w o
   acting-strays so q = at-once (λ at. (did noNote, some (NoReturn at))) (λ at. refl) (sorted-as q so) (λ P E at t h. refl)
 
-  pub acting-halts : {v : ℕ} {s : Sort} → Sorted (g .nodes) f n s → s ≡ Halts → v ≡ valueOf (g .nodes) (n + 1) → Acting g f n w o a (record { outcome = Halting v; at = a }) w o
+  pub acting-halts : {v : ℕ} {s : Sort} → Sorted b f n s → s ≡ Halts → v ≡ valueOf b (n + 1) → Acting b symbols regions f n w o (Halting v) w o
   acting-halts {v} so′ q e =
       let so = sorted-as q so′ in
       at-once (λ at. (did noNote, some (Halted at v))) (λ at. refl) so
       (λ P E at t h. ap (λ (d : Node). done (did noNote, some (Halted at (d .value)))) (first-kid E (so .here .1) (so .here .0) (λ z. omega (arith, z, so .here .2)) h)
       ∙ ap (λ (z : ℕ). done (did noNote, some (Halted at z))) (sym e))
 
-  pub acting-leaves : {s : ℕ} → kindOf (g .nodes) n ≡ 16 → (s ≡ spanOf (g .nodes) n) × (s < 4294967296) → s ≡ 1 → Acting g f n w o a (record { outcome = Leaves; at = a }) w o
+  pub acting-leaves : {s : ℕ} → kindOf b n ≡ 16 → (s ≡ spanOf b n) × (s < 4294967296) → s ≡ 1 → Acting b symbols regions f n w o Leaves w o
   unfolding returning
   acting-leaves k e z = at-once (λ at. (did noNote, some (Returned none))) (λ at. refl) (sort-gives refl k) (λ P E at t h. ap (returning P) (returns-none E k (sym (e .0) ∙ z) h))
 
-module _ {g : Given} {f : Facts} {n : ℕ} {w₀ o₀ w o : List ℕ} {a₀ : Counts} where
-  pub acting-plain : {q : Executed} {r : Acted} {s : Sort} → Fine (g .nodes) n → Sorted (g .nodes) f n s → s ≡ Plain → Executes g n w₀ o₀ a₀ q w o → Executing q r → Acting g f n w₀ o₀ a₀ r w o
+module _ {b symbols regions : List ℕ} {f : Facts} {n : ℕ} {w₀ o₀ w o : List ℕ} (ready : ReadyIn (given b symbols regions) w₀) where
+  pub acting-plain : {q : Done} {r : Acts} {s : Sort} → Fine b n → Sorted b f n s → s ≡ Plain → Executes b symbols regions n w₀ o₀ q w o → Executing q r → Acting b symbols regions f n w₀ o₀ r w o
   acting-plain {q} {r} fn so p x e = record {
-    runs = λ P named at t h.
-        acts (λ x m. outcome-sort P (x .env) at (look (x .env) t) ∙ ap (bySort P (x .env) at (look (x .env) t)) (sorted-as p so .is P named (x .env) t h)) (run at t h);
-    ready = run none (fn .tree) (fn .spells) .ready;
-    tables = run none (fn .tree) (fn .spells) .tables;
+    goes = λ P named at t h.
+        acts (λ i x m. outcome-sort P (x .env) at (look (x .env) t) ∙ ap (bySort P (x .env) at (look (x .env) t)) (sorted-as p so .is P named (x .env) t h)) (run at t h);
+    remains = remains (run none (fn .tree) (fn .spells)) ready;
   }
     where
-      run : (at : Option ℕ) (t : Tree) → Stands (g .nodes) n t → Runs g (λ x. execute (x .env) (look (x .env) t) >>= λ d. done (d, none)) w₀ o₀ a₀ (actsEnd at (r .outcome)) w o (r .at)
-      run at t h = told (e .is at) (e .at) (then-end (λ d. done (d, none)) (λ d. gave (d, none)) (λ d. refl) (doneOf (q .outcome)) (x .runs t h))
+      run : (at : Option ℕ) (t : Tree) → Stands b n t → Goes (given b symbols regions) (λ x. execute (x .env) (look (x .env) t) >>= λ d. done (d, none)) w₀ o₀ (actsEnd at r) w o
+      run at t h = told (e .is at) (then-end (λ d. done (d, none)) (λ d. gave (d, none)) (λ d. refl) (doneOf q) (x .goes t h))
 
-  pub acting-gives : {e : Evaluated} {r : Acted} {s : ℕ} → kindOf (g .nodes) n ≡ 16 → Fine (g .nodes) n → (s ≡ spanOf (g .nodes) n) × (s < 4294967296) → (s ≡ 1 → ⊥) → Evals g (n + 1) w₀ o₀ a₀ e w o
-      → Gave (f .returns) e r → Acting g f n w₀ o₀ a₀ r w o
+  pub acting-gives : {e : outcome-is.Outcome} {r : Acts} {s : ℕ} → kindOf b n ≡ 16 → Fine b n → (s ≡ spanOf b n) × (s < 4294967296) → (s ≡ 1 → ⊥) → Evals b symbols regions (n + 1) w₀ o₀ e w o
+      → Gave (f .returns) e r → Acting b symbols regions f n w₀ o₀ r w o
   unfolding returning
   acting-gives {e} {r} k fn d ne x q = record {
-    runs = λ P named at t h.
+    goes = λ P named at t h.
         let u = returns-one k (λ z. ne (d .0 ∙ z)) h in
-        acts (λ x m. outcome-sort P (x .env) at (look (x .env) t) ∙ ap (bySort P (x .env) at (look (x .env) t)) (sort-gives {f = f} refl k .is P named (x .env) t h) ∙ ap (returning P) (u .only (x .env)))
+        acts (λ i x m. outcome-sort P (x .env) at (look (x .env) t) ∙ ap (bySort P (x .env) at (look (x .env) t)) (sort-gives {f = f} refl k .is P named (x .env) t h) ∙ ap (returning P) (u .only (x .env)))
         (run (returnedAs P) (named .returned) at (u .given) (u .spells));
-    ready = run (returnsAs (f .returns)) (λ v. refl) none (give-kid k fn d ne .tree) (give-kid k fn d ne .spells) .ready;
-    tables = run (returnsAs (f .returns)) (λ v. refl) none (give-kid k fn d ne .tree) (give-kid k fn d ne .spells) .tables;
+    remains = remains (run (returnsAs (f .returns)) (λ v. refl) none (give-kid k fn d ne .tree) (give-kid k fn d ne .spells)) ready;
   }
     where
-      run : (cast : Val → Val) → ((v : Val) → cast v ≡ returnsAs (f .returns) v) → (at : Option ℕ) (t : Tree) → Stands (g .nodes) (n + 1) t
-          → Runs g (λ x. eval (look (x .env) t) >>= λ v. done (did noNote, some (Returned (some (cast v))))) w₀ o₀ a₀ (actsEnd at (r .outcome)) w o (r .at)
+      run : (cast : Val → Val) → ((v : Val) → cast v ≡ returnsAs (f .returns) v) → (at : Option ℕ) (t : Tree) → Stands b (n + 1) t
+          → Goes (given b symbols regions) (λ x. eval (look (x .env) t) >>= λ v. done (did noNote, some (Returned (some (cast v))))) w₀ o₀ (actsEnd at r) w o
       run cast same at t h =
-          told (q .is at) (q .at)
+          told (q .is at)
           (then-end (λ v. done (did noNote, some (Returned (some (cast v))))) (λ v. gave (did noNote, some (Returned (some (returnsAs (f .returns) v)))))
-          (λ v. ap (λ (z : Val). done (did noNote, some (Returned (some z)))) (same v)) (endOf (e .outcome)) (x .runs t h))
+          (λ v. ap (λ (z : Val). done (did noNote, some (Returned (some z)))) (same v)) (endOf e) (x .goes t h))

@@ -1,5 +1,5 @@
 -- A statement's step, and the statement as a run on the code's host. Assumes nothing.
-use mathlib.Core.Path.{_≡_, refl, sym, ap₂, _∙_, subst}
+use mathlib.Core.Path.{_≡_, refl, sym, ap, ap₂, _∙_, subst}
 use mathlib.Core.Bool.{Bool, true, false, true≢false}
 use mathlib.Core.List.{List}
 use mathlib.Core.Option.{Option, none, some}
@@ -13,29 +13,27 @@ use Rattle.definition.specs.Statements as statements
 use Rattle.index.specs.declared.blocks.Statement.{Statement}
 use Rattle.index.specs.Answers.{optionOf}
 use Rattle.index.specs.Blocks.{States}
-use Rattle.workspace.specs.Parts.{tables}
 use Rattle.workspace.specs.View.{Changes, leaving}
 use Rattle.hosting.specs.declared.How.{How}
-use Rattle.hosting.specs.declared.Counts.{Counts}
 use Rattle.hosting.specs.declared.Facts.{Facts}
 use Rattle.hosting.specs.Stands.{Stands, Fine}
-use Rattle.hosting.specs.Scene.{Given, Scene, Ready}
+use Rattle.hosting.specs.Scene.{Given, given, Scene, Ready}
 use Rattle.hosting.specs.Ending.{Ending, ended, short, shortOf}
-use Rattle.hosting.specs.Runs.{Kept, Runs}
-use Rattle.hosting.proofs.Running.{goes, halts, acts, told}
+use Rattle.hosting.specs.Runs.{Kept}
 use Rattle.hosting.proofs.Reasons.{why-some, why-none}
-use Rattle.hosting.proofs.Keeping.{kept-ready}
 use Rattle.hosting.proofs.Shapes.{fine}
+use Rattle.operations.specs.Registers.{countsIn, unitsOf, howIn}
+use Rattle.operations.specs.Going.{Goes, Remains}
+use Rattle.operations.proofs.Registers.{units-same, how-same}
+use Rattle.operations.proofs.Going.{goes, halts, acts, told}
 use Rattle.statements.specs.declared.steps.Site.{Site}
 use Rattle.statements.specs.declared.statements.Acts.{Acts}
 use Rattle.statements.specs.declared.statements.Acts.the-variants.{Does, Leaves, Gives, Strays, Halts, Fails}
-use Rattle.statements.specs.declared.statements.Acted.{Acted}
-use Rattle.statements.specs.declared.statements.Stepped.{Stepped}
 use Rattle.statements.specs.declared.statements.Halt.{Halt}
 use Rattle.statements.specs.Endings.{triedEnd, actsEnd, didIn, fullIn, HaltIs}
 use Rattle.statements.specs.Sorts.{RootsOf}
 use Rattle.statements.specs.Post.{Acting, Sends, SendsIf, Concludes, RunsStatement}
-use Rattle.statements.proofs.Running.{try-end, leave-runs, concluding, step-runs}
+use Rattle.statements.proofs.Running.{try-end, leave-goes, concluding, sent-ready, step-goes}
 
 -- ---- what is kept unless there is no room
 
@@ -61,61 +59,65 @@ kept-acts at at′ {F} {G} (Fails s) h f = go (shortOf s) f
 
 -- ---- the step is sent, unless there is no room
 
-module _ (how : How) (site : Site) (at : Option ℕ) (w o o′ : List ℕ) (a r : Counts) where
-  sends-full : (x : Acts) → fullIn x ≡ true → SendsIf how site (actsEnd at x) w o a r o′
+module _ (site : Site) (at : Option ℕ) (w o : List ℕ) where
+  sends-full : (x : Acts) → fullIn x ≡ true → SendsIf site (actsEnd at x) w o w o
   sends-full (Does d) h = absurd (true≢false (sym h))
   sends-full Leaves h = absurd (true≢false (sym h))
   sends-full (Gives v) h = absurd (true≢false (sym h))
   sends-full Strays h = absurd (true≢false (sym h))
   sends-full (Halts t) h = absurd (true≢false (sym h))
-  sends-full (Fails s) h = subst (λ (z : Option Why). SendsIf how site (short z) w o a r o′) (sym (why-none (s .reason) (s .number) h)) tt
+  sends-full (Fails s) h = subst (λ (z : Option Why). SendsIf site (short z) w o w o) (sym (why-none (s .reason) (s .number) h)) refl
 
-  sends-some : (x : Acts) → fullIn x ≡ false → Sends how site (didIn x) w o a r o′ → SendsIf how site (actsEnd at x) w o a r o′
-  sends-some (Does d) h s = s
-  sends-some Leaves h s = s
-  sends-some (Gives v) h s = s
-  sends-some Strays h s = s
-  sends-some (Halts t) h s = s
-  sends-some (Fails f) h s = let y = why-some (f .reason) (f .number) h in subst (λ (z : Option Why). SendsIf how site (short z) w o a r o′) (sym (y .1)) s
+  sends-some : (w′ o′ : List ℕ) (x : Acts) → fullIn x ≡ false → Sends site (didIn x) w o w′ o′ → SendsIf site (actsEnd at x) w o w′ o′
+  sends-some w′ o′ (Does d) h s = s
+  sends-some w′ o′ Leaves h s = s
+  sends-some w′ o′ (Gives v) h s = s
+  sends-some w′ o′ Strays h s = s
+  sends-some w′ o′ (Halts t) h s = s
+  sends-some w′ o′ (Fails f) h s = let y = why-some (f .reason) (f .number) h in subst (λ (z : Option Why). SendsIf site (short z) w o w′ o′) (sym (y .1)) s
 
-module _ {how : How} {site : Site} {w o : List ℕ} {x : Acted} {h : Halt} {b : Bool} (halt : HaltIs (optionOf (site .address)) (x .outcome) h) (full : b ≡ fullIn (x .outcome)) where
-  pub conclude-full : b ≡ true → Concludes how site w o x (record { halt = h; at = x .at }) o
-  conclude-full t = record { halt = halt; sends = sends-full how site (optionOf (site .address)) w o o (x .at) (x .at) (x .outcome) (sym full ∙ t) }
+module _ {site : Site} {w o : List ℕ} {x : Acts} {h : Halt} {b : Bool} (halt : HaltIs (optionOf (site .address)) x h) (full : b ≡ fullIn x) where
+  pub conclude-full : b ≡ true → Concludes site w o x h w o
+  conclude-full t = record { halt = halt; sends = sends-full site (optionOf (site .address)) w o x (sym full ∙ t) }
 
-  pub conclude-sent : {d : ev.Did} {c : Counts} {o′ : List ℕ} → b ≡ false → d ≡ didIn (x .outcome) → Sends how site d w o (x .at) c o′ → Concludes how site w o x (record { halt = h; at = c }) o′
-  conclude-sent {c = c} {o′ = o′} t e s = record {
+  pub conclude-sent : {d : ev.Did} {w′ o′ : List ℕ} → b ≡ false → d ≡ didIn x → Sends site d w o w′ o′ → Concludes site w o x h w′ o′
+  conclude-sent {w′ = w′} {o′ = o′} t e s = record {
     halt = halt;
-    sends = sends-some how site (optionOf (site .address)) w o o′ (x .at) c (x .outcome) (sym full ∙ t) (subst (λ (d : ev.Did). Sends how site d w o (x .at) c o′) e s);
+    sends = sends-some site (optionOf (site .address)) w o w′ o′ x (sym full ∙ t) (subst (λ (d : ev.Did). Sends site d w o w′ o′) e s);
   }
 
 -- ---- the outcome, caught, and its step
 
-blank : {A : Type 0} {g : Given} {m : Scene → Act A} {w₀ o₀ w o w′ o′ : List ℕ} {a₀ a a′ : Counts} → Runs g m w₀ o₀ a₀ (short none) w o a → Runs g m w₀ o₀ a₀ (short none) w′ o′ a′
-blank r = record { ready = tt; came = r .came; tables = tt }
+blank : {A : Type 0} {g : How → Given} {m : Scene → Act A} {w₀ o₀ w o w′ o′ : List ℕ} → w′ ≡ w → Goes g m w₀ o₀ (short none) w o → Goes g m w₀ o₀ (short none) w′ o′
+blank e r = record {
+  how = ap howIn e ∙ r .how;
+  units = ap (λ (z : List ℕ). unitsOf (countsIn z)) e ∙ r .units;
+  runs = λ h q p. record { ready = tt; came = r .runs h q p .came; tables = tt };
+}
 
-tried-kept : {A B : Type 0} (F : Type 0) (f : End A → B) (e : Ending A) → Kept e F → Kept (triedEnd f e) F
-tried-kept F f (ended v) p = p
-tried-kept F f (short (some y)) p = p
-tried-kept F f (short none) p = tt
+abbrev stopIn : Site → End statements.Outcome → Option statements.Stop
+stopIn site z = statements.outcomeOf (optionOf (site .address)) z .1
 
-module _ (g : Given) (site : Site) (w o o′ : List ℕ) (a r : Counts) where
-  abbrev stopIn : End statements.Outcome → Option statements.Stop
-  stopIn z = statements.outcomeOf (optionOf (site .address)) z .1
-
-  concludes : (m : Scene → Act statements.Outcome) {w₀ o₀ : List ℕ} {a₀ : Counts} (e : Ending statements.Outcome) → Runs g m w₀ o₀ a₀ e w o a → SendsIf (g .how) site e w o a r o′
-      → Runs g (λ x. try (m x) >>= concluding site) w₀ o₀ a₀ (triedEnd stopIn e) w o′ r
-  concludes m (ended v) p s = goes (λ x. concluding site) (try-end (ended v) p) (step-runs g site (gave v) s (p .ready))
-  concludes m (short (some y)) p s = goes (λ x. concluding site) (try-end (short (some y)) p) (step-runs g site (stopped y) s (p .ready))
-  concludes m (short none) p s = blank (halts (λ x. concluding site) none (try-end (short none) p))
+module _ (b s r : List ℕ) (site : Site) (w o w′ o′ : List ℕ) where
+  concludes : (m : Scene → Act statements.Outcome) {w₀ o₀ : List ℕ} (e : Ending statements.Outcome) → Goes (given b s r) m w₀ o₀ e w o → SendsIf site e w o w′ o′
+      → Goes (given b s r) (λ x. try (m x) >>= concluding site) w₀ o₀ (triedEnd (stopIn site) e) w′ o′
+  concludes m (ended v) p t = goes (λ x. concluding site) (try-end (ended v) p) (step-goes site (gave v) t)
+  concludes m (short (some y)) p t = goes (λ x. concluding site) (try-end (short (some y)) p) (step-goes site (stopped y) t)
+  concludes m (short none) p t = blank t (halts (λ x. concluding site) none (try-end (short none) p))
 
   -- what it leaves
-  sent-ready : {d : ev.Did} → Sends (g .how) site d w o a r o′ → Ready g w a → Ready g w r
-  sent-ready s p = subst (λ (z : Counts). Ready g w z) (sym (s .rest)) (kept-ready refl (p .fit) p)
+  sent-remains : {d : ev.Did} {w₀ : List ℕ} → Sends site d w o w′ o′ → Remains (given b s r) w₀ w → Remains (given b s r) w₀ w′
+  sent-remains t p = record {
+    how = t .how ∙ p .how;
+    units = ap unitsOf (t .counts) ∙ p .units;
+    ready = record { ready = subst (λ (h : How). Ready (given b s r h) w′ (countsIn w′)) (sym (t .how)) (sent-ready t (p .ready .ready)) };
+    tables = t .aside .tables ∙ p .tables;
+  }
 
-  concludes-ready : (e : Ending statements.Outcome) → Kept e (Ready g w a) → SendsIf (g .how) site e w o a r o′ → Kept (triedEnd stopIn e) (Ready g w r)
-  concludes-ready (ended v) p s = sent-ready s p
-  concludes-ready (short (some y)) p s = sent-ready s p
-  concludes-ready (short none) p s = tt
+  concludes-remains : (w₀ : List ℕ) (e : Ending statements.Outcome) → Kept e (Remains (given b s r) w₀ w) → SendsIf site e w o w′ o′ → Kept (triedEnd (stopIn site) e) (Remains (given b s r) w₀ w′)
+  concludes-remains w₀ (ended v) p t = sent-remains t p
+  concludes-remains w₀ (short (some y)) p t = sent-remains t p
+  concludes-remains w₀ (short none) p t = tt
 
 -- ---- a statement
 
@@ -137,27 +139,29 @@ root-stands {nodes} {k = k} all l s = subst (λ (n : ℕ). Stands nodes n (treeA
 pub root-fine : {nodes ss : List ℕ} {k : ℕ} {s : Statement} → RootsOf nodes ss → k * 13 + 13 ≤ length ss → States ss k s → Fine nodes (s .root)
 root-fine all l s = fine (root-stands all l s)
 
-pub cleared-ready : {g : Given} {w w′ : List ℕ} {a : Counts} {p : Option (List ℕ)} → Changes w (leaving p) w′ → Ready g w a → Ready g w′ a
-cleared-ready {a = a} c r = kept-ready (c .tables) (c .fit (a .stored) (r .fit)) r
+-- what is left after a note was cleared
+cleared-remains : {g : How → Given} {p : Option (List ℕ)} {w₀ w₁ w : List ℕ} → Changes w₀ (leaving p) w₁ → Remains g w₁ w → Remains g w₀ w
+cleared-remains {w₀ = w₀} {w₁ = w₁} c r = record {
+  how = r .how ∙ how-same w₀ w₁ (c .registers);
+  units = r .units ∙ units-same w₀ w₁ (c .registers);
+  ready = r .ready;
+  tables = r .tables ∙ c .tables;
+}
 
 abbrev siteOf : Statement → ℕ → ℕ → Site
 siteOf s b k = record { address = s .address; block = b; statement = k }
 
-module _ {g : Given} {ss : List ℕ} {f : Facts} {b k : ℕ} {w₀ w₁ o₀ w o o′ : List ℕ} {a₀ : Counts} {s : Statement} {a : Acted} {r : Stepped}
-    (all : RootsOf (g .nodes) ss) (l : k * 13 + 13 ≤ length ss) (cleared : Changes w₀ (leaving none) w₁) (states : States ss k s) (acted : Acting g f (s .root) w₁ o₀ a₀ a w o) where
-  pub statement-runs : Concludes (g .how) (siteOf s b k) w o a r o′ → RunsStatement g ss f b k w₀ o₀ a₀ r w o′
+module _ {b s r ss : List ℕ} {f : Facts} {n k : ℕ} {w₀ w₁ o₀ w o w′ o′ : List ℕ} {t : Statement} {q : Acts} {h : Halt}
+    (all : RootsOf b ss) (l : k * 13 + 13 ≤ length ss) (cleared : Changes w₀ (leaving none) w₁) (states : States ss k t) (acted : Acting b s r f (t .root) w₁ o₀ q w o) where
+  pub statement-runs : Concludes (siteOf t n k) w o q h w′ o′ → RunsStatement b s r ss f n k w₀ o₀ h w′ o′
   statement-runs c = record {
-    runs = λ P named limit.
-        let at = optionOf (s .address) in
-        told (c .halt .is limit) refl
-        (acts (λ x h. statement-is P (x .env) (g .nodes) ss b k ∙ ap₂ (λ (z : Option ℕ) (t : Tree). stated P (x .env) b k z t) (states .address (g .nodes)) (states .root (g .nodes)))
-        (leave-runs cleared (concludes g (siteOf s b k) w o o′ (a .at) (r .at) _ (actsEnd at (a .outcome)) (acted .runs P named at (treeAt (g .nodes) (s .root)) (root-stands all l states)) (c .sends))));
-    ready =
-        let at = optionOf (s .address) in
-        subst (λ (z : Ending (Option statements.Stop)). Kept z (Ready g w (r .at))) (sym (c .halt .is 0))
-        (concludes-ready g (siteOf s b k) w o o′ (a .at) (r .at) (actsEnd at (a .outcome)) (kept-acts none at (a .outcome) (λ z. z) (acted .ready)) (c .sends));
-    tables =
-        let at = optionOf (s .address) in
-        subst (λ (z : Ending (Option statements.Stop)). Kept z (tables w ≡ tables w₀)) (sym (c .halt .is 0))
-        (tried-kept (tables w ≡ tables w₀) (λ e. statements.outcomeOf at e .1) (actsEnd at (a .outcome)) (kept-acts none at (a .outcome) (λ t. t ∙ cleared .tables) (acted .tables)));
+    goes = λ P named limit.
+        let at = optionOf (t .address) in
+        told (c .halt .is limit)
+        (acts (λ h x m. statement-is P (x .env) b ss n k ∙ ap₂ (λ (z : Option ℕ) (u : Tree). stated P (x .env) n k z u) (states .address b) (states .root b))
+        (leave-goes cleared (concludes b s r (siteOf t n k) w o w′ o′ _ (actsEnd at q) (acted .goes P named at (treeAt b (t .root)) (root-stands all l states)) (c .sends))));
+    remains =
+        let at = optionOf (t .address) in
+        subst (λ (z : Ending (Option statements.Stop)). Kept z (Remains (given b s r) w₀ w′)) (sym (c .halt .is 0))
+        (concludes-remains b s r (siteOf t n k) w o w′ o′ w₀ (actsEnd at q) (kept-acts none at q (cleared-remains cleared) (acted .remains)) (c .sends));
   }

@@ -1,6 +1,6 @@
 -- A statement's step as the code sends it is the definition's. Assumes nothing.
 use mathlib.Core.Path.{_≡_, refl, sym, ap, _∙_, subst}
-use mathlib.Core.Bool.{Bool, true, false, cond, true≢false}
+use mathlib.Core.Bool.{Bool, true, false, cond, not, true≢false}
 use mathlib.Core.List.{List, [], _++_, append-nil}
 use mathlib.Core.Option.{none, some}
 use Prim.Native.Nat.{ℕ, zero, suc, _+_, _*_, _≤_, _<_}
@@ -10,17 +10,21 @@ use lib.Dec.{eqb}
 use lib.ListN.{length, take, drop, length-append}
 use lib.Seq.{take-at}
 use Rattle.value.specs.declared.Val.{Val}
+use Rattle.value.proofs.EncodingLaws.{flag-read}
 use Rattle.layout.specs.Each.{Each}
 use Rattle.layout.specs.Number.{le, num, numberAt}
 use Rattle.layout.specs.Format.{number, writes, reads, boolOf}
 use Rattle.layout.proofs.NumberLaws.{length-le, num-le, numberAt-lt}
 use Rattle.layout.proofs.FormatLaws.{Below}
 use Rattle.definition.specs.Act.{notFollowed, Pending}
+use Rattle.definition.specs.Evaluate as ev
 use Rattle.definition.specs.Statements as statements
 use Rattle.definition.specs.Fields.{noVal}
 use Rattle.definition.specs.Record.{noteFields, stepFields}
-use Rattle.workspace.specs.Parts.{workspaceSize}
+use Rattle.workspace.specs.Parts.{workspaceSize, registersPart, notePart}
 use Rattle.workspace.specs.Note.{names, namesBytes, pendingIn, noted, taken, Few}
+use Rattle.workspace.specs.Registers.{wordAt}
+use Rattle.workspace.specs.Post.{SetsWord}
 use Rattle.stream.specs.declared.NotePiece.{NotePiece}
 use Rattle.stream.specs.declared.StepPiece.{StepPiece}
 use Rattle.stream.specs.Stream.{Sent}
@@ -31,8 +35,12 @@ use Rattle.hosting.specs.declared.Note.{Note}
 use Rattle.hosting.specs.declared.Note.the-variants.{Nothing, Fields, Written, Unknown}
 use Rattle.hosting.specs.declared.Did.{Did}
 use Rattle.hosting.specs.Ending.{noteOf, didOf}
+use Rattle.hosting.specs.Held.{withRecorded}
+use Rattle.operations.specs.Registers.{countsIn, howIn}
+use Rattle.operations.proofs.Registers.{recorded-word, second-word, recorded-set, recorded-how}
 use Rattle.statements.specs.declared.steps.Site.{Site}
 use Rattle.statements.specs.Steps.{OwnNote, leftPiece, takesNote, pieceOf, stepAs}
+use Rattle.statements.specs.Post.{Sends}
 use Rattle.statements.proofs.StopLaws.{flagged}
 
 -- ---- a note of its own
@@ -136,6 +144,31 @@ module _ {on : Bool} {out out′ : List ℕ} {at r : ℕ} (names : List ℕ) (si
         (left-fields (taken p) count counted (omega arith) h ∙ ap noteFields (sym (left-told (did .note) p (sym takes ∙ f))))
         (subst (λ (z : StepPiece). Sent on out at (stepBytes (stepFrom z (namesBytes (taken p)))) out′ r) (made ∙ ap (pieceOf site did) left)
         (subst (λ (z : List ℕ). Sent on out at (stepBytes (stepFrom s z)) out′ r) bytes t))
+
+-- in the first pass
+turned : (b : Bool) {d : Bool} → not b ≡ d → b ≡ not d
+turned true e = ap not e
+turned false e = ap not e
+
+pub sent-on : (w : List ℕ) {k : ℕ} {out out′ : List ℕ} {at r : ℕ} {piece : List ℕ} → k ≡ wordAt (registersPart w) 8 → Sent (eqb k 0) out at piece out′ r → Sent (not (howIn w .second)) out at piece out′ r
+sent-on w {k} {out} {out′} {at} {r} {piece} e s =
+    subst (λ (b : Bool). Sent b out at piece out′ r) (turned (eqb k 0) (flag-read k ∙ ap boolOf e ∙ second-word w)) s
+
+-- and the cursor is kept in the registers
+pub sends-of : {site : Site} {d : ev.Did} {w o w′ o′ : List ℕ} {at cursor : ℕ} → at ≡ wordAt (registersPart w) 1
+    → Sent (not (howIn w .second)) o at (stepBytes (stepFields (stepAs site d (pendingIn (notePart w))))) o′ cursor → SetsWord w 1 cursor w′ → Sends site d w o w′ o′
+sends-of {site} {d} {w} {o} {w′} {o′} {at} {cursor} e s h = record {
+  aside = h .aside;
+  how = recorded-how h;
+  counts = recorded-set h ∙ ap (λ (c : ℕ). withRecorded c (countsIn w)) after;
+  sent = subst (λ (c : ℕ). Sent (not (howIn w .second)) o c piece o′ (countsIn w′ .tally .recorded)) (e ∙ recorded-word w) (subst (λ (c : ℕ). Sent (not (howIn w .second)) o at piece o′ c) after s);
+}
+  where
+    piece : List ℕ
+    piece = stepBytes (stepFields (stepAs site d (pendingIn (notePart w))))
+
+    after : cursor ≡ countsIn w′ .tally .recorded
+    after = sym (h .here) ∙ recorded-word w′
 
 -- what a step needs of the names beside it
 pub names-fit : (site : Site) (did : Did) {s : StepPiece} {n : NotePiece} (count : ℕ) (xs : List ℕ) {names : List ℕ} → s ≡ pieceOf site did n → n ≡ leftPiece count → names ≡ namesBytes xs → length xs ≤ 16

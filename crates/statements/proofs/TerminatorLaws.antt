@@ -21,21 +21,20 @@ use Rattle.index.specs.declared.blocks.Terminator.{Terminator}
 use Rattle.index.specs.declared.blocks.Terminator.the-variants.{Return, Goto, Branch, Switch}
 use Rattle.index.specs.Answers.{optionOf}
 use Rattle.index.specs.Blocks.{terminatorAs, casesIn, Ends}
-use Rattle.hosting.specs.declared.Counts.{Counts}
 use Rattle.hosting.specs.declared.Stop.the-variants.{ReturnedNothing}
-use Rattle.hosting.specs.declared.Evaluated.{Evaluated}
+use Rattle.hosting.specs.declared.Outcome.{Outcome}
 use Rattle.hosting.specs.Stands.{Stands, stands}
-use Rattle.hosting.specs.Scene.{Given, Ready}
+use Rattle.hosting.specs.Scene.{given}
 use Rattle.hosting.specs.Ending.{endOf}
-use Rattle.hosting.specs.Runs.{Runs}
-use Rattle.hosting.proofs.Running.{acts, told, done-runs}
+use Rattle.operations.specs.Going as going
+use Rattle.operations.proofs.Going.{acts, told, done-goes}
 use Rattle.machine.specs.Post.{Evals}
+use Rattle.statements.specs.declared.terminators.Next.{Next}
 use Rattle.statements.specs.declared.terminators.Next.the-variants.{Stops, Goes}
-use Rattle.statements.specs.declared.terminators.Moved.{Moved}
-use Rattle.statements.specs.declared.terminators.Led.{Led}
-use Rattle.statements.specs.Endings.{actOf, leadEnd, nextEnd}
+use Rattle.statements.specs.declared.terminators.Lead.{Lead}
+use Rattle.statements.specs.Endings.{actOf, bindEnd, leadEnd, nextEnd}
 use Rattle.statements.specs.Placing.{Placing}
-use Rattle.statements.specs.Post.{branches, switches, Taken, Chosen, statementsAt, Leads, Outside, Terminates}
+use Rattle.statements.specs.Post.{branches, switches, statementsAt, Leads, Outside, Terminates}
 use Rattle.statements.proofs.Running.{then-end, tried-then}
 
 -- ---- the root of a terminator that has one
@@ -83,10 +82,10 @@ module _ {nodes ss blocks : List ℕ} {p : Place} {t : Terminator} (all : Placin
 place-is : {b : List ℕ} {n : ℕ} {t : Tree} → Stands b n t → place t ≡ n
 place-is (stands i h) = refl
 
-module _ {g : Given} {w₀ o₀ w o : List ℕ} {a₀ : Counts} {n : ℕ} {e : Evaluated} {l : Led} (evals : Evals g n w₀ o₀ a₀ e w o) (t : Tree) (h : Stands (g .nodes) n t) where
-  taking-runs : {taken next : ℕ} → Taken n taken next e l → Runs g (λ x. walk.taking (x .env) t taken next) w₀ o₀ a₀ (leadEnd (l .lead)) w o (l .at)
+module _ {b s r : List ℕ} {w₀ o₀ w o : List ℕ} {n : ℕ} {e : Outcome} (l : Lead) (evals : Evals b s r n w₀ o₀ e w o) (t : Tree) (h : Stands b n t) where
+  taking-goes : (taken next : ℕ) → leadEnd l ≡ bindEnd (branches n taken next) (endOf e) → going.Goes (given b s r) (λ x. walk.taking (x .env) t taken next) w₀ o₀ (leadEnd l) w o
   unfolding walk.taking
-  taking-runs {taken} {next} q = told (q .is) (q .at) (then-end f (branches n taken next) same (endOf (e .outcome)) (evals .runs t h))
+  taking-goes taken next q = told q (then-end f (branches n taken next) same (endOf e) (evals .goes t h))
     where
       f : Val → Act ℕ
       f v = elim (numberIn v) [ none ↦ fail (branchUnknown (place t)) | some m ↦ done (elim (eqb m 0) [ true ↦ next | false ↦ taken ]) ]
@@ -99,9 +98,10 @@ module _ {g : Given} {w₀ o₀ w o : List ℕ} {a₀ : Counts} {n : ℕ} {e : E
       same : (v : Val) → f v ≡ actOf (branches n taken next v)
       same v = by (numberIn v)
 
-  choosing-runs : {blocks : List ℕ} {start count : ℕ} → Chosen blocks start count n e l → Runs g (λ x. walk.choosing (x .env) t (listed (caseAt blocks (start + 24)) 0 count)) w₀ o₀ a₀ (leadEnd (l .lead)) w o (l .at)
+  choosing-goes : (blocks : List ℕ) (start count : ℕ) → leadEnd l ≡ bindEnd (switches n (listed (caseAt blocks (start + 24)) 0 count)) (endOf e)
+      → going.Goes (given b s r) (λ x. walk.choosing (x .env) t (listed (caseAt blocks (start + 24)) 0 count)) w₀ o₀ (leadEnd l) w o
   unfolding walk.choosing
-  choosing-runs {blocks} {start} {count} q = told (q .is) (q .at) (then-end f (switches n cases) same (endOf (e .outcome)) (evals .runs t h))
+  choosing-goes blocks start count q = told q (then-end f (switches n cases) same (endOf e) (evals .goes t h))
     where
       cases : List Case
       cases = listed (caseAt blocks (start + 24)) 0 count
@@ -126,35 +126,35 @@ module _ {g : Given} {w₀ o₀ w o : List ℕ} {a₀ : Counts} {n : ℕ} {e : E
 
 -- ---- each terminator
 
-module _ {g : Given} {ss blocks : List ℕ} {p : Place} {t : Terminator} (ends : Ends blocks (p .start) t) where
-  led-by : {t′ : Terminator} {w₀ o₀ w o : List ℕ} {a₀ : Counts} {r : Moved} → t ≡ t′ → Outside (r .next)
-      → ((limit : ℕ) → Runs g (λ x. walk.terminate (x .env) (statementsAt (g .nodes) ss blocks p) (terminatorAs (g .nodes) blocks (p .start) t′)) w₀ o₀ a₀ (nextEnd limit (r .next)) w o (r .at))
-      → Terminates g ss blocks p w₀ o₀ a₀ r w o
+module _ {b s r ss blocks : List ℕ} {p : Place} {t : Terminator} (ends : Ends blocks (p .start) t) where
+  led-by : {t′ : Terminator} {w₀ o₀ w o : List ℕ} {q : Next} → t ≡ t′ → Outside q
+      → ((limit : ℕ) → going.Goes (given b s r) (λ x. walk.terminate (x .env) (statementsAt b ss blocks p) (terminatorAs b blocks (p .start) t′)) w₀ o₀ (nextEnd limit q) w o)
+      → Terminates b s r ss blocks p w₀ o₀ q w o
   led-by e out run = record {
-    runs = λ limit. acts (λ x h. ap (walk.terminate (x .env) (statementsAt (g .nodes) ss blocks p)) (ends .is (g .nodes) ∙ ap (terminatorAs (g .nodes) blocks (p .start)) e)) (run limit);
+    goes = λ limit. acts (λ i x h. ap (walk.terminate (x .env) (statementsAt b ss blocks p)) (ends .is b ∙ ap (terminatorAs b blocks (p .start)) e)) (run limit);
     outside = out;
   }
 
-  pub terminates-return : {w o : List ℕ} {a : Counts} → Ready g w a → t ≡ Return → Terminates g ss blocks p w o a (record { next = Stops ReturnedNothing; at = a }) w o
+  pub terminates-return : {w o : List ℕ} → t ≡ Return → Terminates b s r ss blocks p w o (Stops ReturnedNothing) w o
   unfolding walk.terminate
-  terminates-return r e = led-by e tt (λ limit. done-runs (λ x. walk.stops (statements.Returned none)) (λ x h. refl) r)
+  terminates-return e = led-by e tt (λ limit. done-goes (λ x. walk.stops (statements.Returned none)) (λ i x h. refl))
 
-  pub terminates-goto : {w o : List ℕ} {a : Counts} {b : ℕ} → Ready g w a → t ≡ Goto b → Terminates g ss blocks p w o a (record { next = Goes (record { block = b; statement = 0; inside = false }); at = a }) w o
+  pub terminates-goto : {w o : List ℕ} {n : ℕ} → t ≡ Goto n → Terminates b s r ss blocks p w o (Goes (record { block = n; statement = 0; inside = false })) w o
   unfolding walk.terminate
-  terminates-goto {b = b} r e = led-by e refl (λ limit. done-runs (λ x. walk.goes (walk.before b)) (λ x h. refl) r)
+  terminates-goto {n = n} e = led-by e refl (λ limit. done-goes (λ x. walk.goes (walk.before n)) (λ i x h. refl))
 
-  module _ {w₀ o₀ w o : List ℕ} {a₀ : Counts} {a : Maybe} {n : ℕ} {e : Evaluated} {l : Led} {r : Moved} (all : Placing (g .nodes) ss blocks p) (evals : Evals g n w₀ o₀ a₀ e w o) (leads : Leads ss blocks p a l r) where
+  module _ {w₀ o₀ w o : List ℕ} {a : Maybe} {n : ℕ} {e : Outcome} {l : Lead} {q : Next} (all : Placing b ss blocks p) (evals : Evals b s r n w₀ o₀ e w o) (leads : Leads ss blocks p a l q) where
     abbrev leave : End ℕ → walk.Next
-    leave = walk.leftTo (walk.addressOr (optionOf a) (statementsAt (g .nodes) ss blocks p))
+    leave = walk.leftTo (walk.addressOr (optionOf a) (statementsAt b ss blocks p))
 
-    pub terminates-branch : {taken next : ℕ} → t ≡ Branch a n taken next → Taken n taken next e l → Terminates g ss blocks p w₀ o₀ a₀ r w o
+    pub terminates-branch : {taken next : ℕ} → t ≡ Branch a n taken next → leadEnd l ≡ bindEnd (branches n taken next) (endOf e) → Terminates b s r ss blocks p w₀ o₀ q w o
     unfolding walk.terminate
-    terminates-branch q k =
-        led-by q (leads .outside)
-        (λ limit. told (leads .is (g .nodes) limit) (leads .at) (tried-then leave (leadEnd (l .lead)) (taking-runs evals (treeAt (g .nodes) n) (branch-stands all ends q) k)))
+    terminates-branch {taken} {next} i k =
+        led-by i (leads .outside)
+        (λ limit. told (leads .is b limit) (tried-then leave (leadEnd l) (taking-goes l evals (treeAt b n) (branch-stands all ends i) taken next k)))
 
-    pub terminates-switch : {count : ℕ} → t ≡ Switch a n count → Chosen blocks (p .start) count n e l → Terminates g ss blocks p w₀ o₀ a₀ r w o
+    pub terminates-switch : {count : ℕ} → t ≡ Switch a n count → leadEnd l ≡ bindEnd (switches n (listed (caseAt blocks (p .start + 24)) 0 count)) (endOf e) → Terminates b s r ss blocks p w₀ o₀ q w o
     unfolding walk.terminate
-    terminates-switch q k =
-        led-by q (leads .outside)
-        (λ limit. told (leads .is (g .nodes) limit) (leads .at) (tried-then leave (leadEnd (l .lead)) (choosing-runs evals (treeAt (g .nodes) n) (switch-stands all ends q) k)))
+    terminates-switch {count} i k =
+        led-by i (leads .outside)
+        (λ limit. told (leads .is b limit) (tried-then leave (leadEnd l) (choosing-goes l evals (treeAt b n) (switch-stands all ends i) blocks (p .start) count k)))

@@ -3,11 +3,11 @@ use mathlib.Core.Path.{_≡_}
 use mathlib.Core.Bool.{true, false, not}
 use mathlib.Core.List.{List}
 use mathlib.Core.Option.{Option, none, some}
-use Prim.Native.Nat.{ℕ, _+_}
+use Prim.Native.Nat.{ℕ}
 use lib.Dec.{eqb}
 use Rattle.value.specs.declared.Val.{Val}
 use Rattle.layout.specs.Number.{numberAt}
-use Rattle.files.specs.Program.{Program, Tree, Statement, Case, caseOf, Block, blockAt, listed, caseAt, statementAt}
+use Rattle.files.specs.Program.{Program, Tree, Statement, Case, caseOf, Block, blockAt, listed, statementAt}
 use Rattle.definition.specs.Act.{End, gave, stopped, noNote, branchUnknown, switchUnknown, noCase}
 use Rattle.definition.specs.Evaluate.{Did, did, numberIn, look}
 use Rattle.definition.specs.Record.{stepFields}
@@ -16,71 +16,71 @@ use Rattle.definition.specs.Walk as walk
 use Rattle.index.specs.declared.Maybe.{Maybe}
 use Rattle.index.specs.declared.blocks.Place.{Place}
 use Rattle.index.specs.Answers.{optionOf}
-use Rattle.workspace.specs.Parts.{notePart, tables}
+use Rattle.workspace.specs.Parts.{notePart}
 use Rattle.workspace.specs.Note.{pendingIn}
+use Rattle.workspace.specs.Post.{Aside}
 use Rattle.stream.specs.Stream.{Sent}
 use Rattle.stream.specs.Pieces.{stepBytes}
-use Rattle.hosting.specs.declared.How.{How}
-use Rattle.hosting.specs.declared.Counts.{Counts}
 use Rattle.hosting.specs.declared.Facts.{Facts}
 use Rattle.hosting.specs.declared.Returns.{Returns}
-use Rattle.hosting.specs.declared.Evaluated.{Evaluated}
-use Rattle.hosting.specs.declared.Executed.{Executed}
+use Rattle.hosting.specs.declared.Outcome.{Outcome}
+use Rattle.hosting.specs.declared.Done.{Done}
 use Rattle.hosting.specs.Stands.{Stands}
-use Rattle.hosting.specs.Scene.{Given, Ready}
+use Rattle.hosting.specs.Scene.{given}
 use Rattle.hosting.specs.Ending.{Ending, ended, short, endOf, doneOf}
-use Rattle.hosting.specs.Runs.{Kept, Runs}
+use Rattle.hosting.specs.Held.{withRecorded}
+use Rattle.hosting.specs.Runs.{Kept}
 use Rattle.hosting.specs.Routine.{returnsAs, Named}
+use Rattle.operations.specs.Registers.{countsIn, howIn}
+use Rattle.operations.specs.Going.{Remains}
+use Rattle.operations.specs.Going as going
 use Rattle.statements.specs.declared.terminators.Next.{Next}
 use Rattle.statements.specs.declared.terminators.Next.the-variants.{Stops, Goes}
-use Rattle.statements.specs.declared.terminators.Moved.{Moved}
+use Rattle.statements.specs.declared.terminators.Lead.{Lead}
 use Rattle.statements.specs.declared.steps.Site.{Site}
-use Rattle.statements.specs.declared.statements.Acted.{Acted}
-use Rattle.statements.specs.declared.statements.Stepped.{Stepped}
-use Rattle.statements.specs.declared.terminators.Led.{Led}
+use Rattle.statements.specs.declared.statements.Acts.{Acts}
+use Rattle.statements.specs.declared.statements.Halt.{Halt}
 use Rattle.statements.specs.Endings.{bindEnd, triedEnd, actsEnd, haltEnd, HaltIs, leadEnd, nextEnd}
-use Rattle.statements.specs.Steps.{stepAs, withRecorded}
+use Rattle.statements.specs.Steps.{stepAs}
 
 -- ---- statements
 
 -- a value is returned
-pub record Gave (returns : Returns) (e : Evaluated) (r : Acted) : Type 0 where
-  pub at : r .at ≡ e .at
-  pub is : (at : Option ℕ) → actsEnd at (r .outcome) ≡ bindEnd (λ v. gave (did noNote, some (statements.Returned (some (returnsAs returns v))))) (endOf (e .outcome))
+pub record Gave (returns : Returns) (e : Outcome) (r : Acts) : Type 0 where
+  pub is : (at : Option ℕ) → actsEnd at r ≡ bindEnd (λ v. gave (did noNote, some (statements.Returned (some (returnsAs returns v))))) (endOf e)
 
 -- something is executed
-pub record Executing (q : Executed) (r : Acted) : Type 0 where
-  pub at : r .at ≡ q .at
-  pub is : (at : Option ℕ) → actsEnd at (r .outcome) ≡ bindEnd (λ d. gave (d, none)) (doneOf (q .outcome))
+pub record Executing (q : Done) (r : Acts) : Type 0 where
+  pub is : (at : Option ℕ) → actsEnd at r ≡ bindEnd (λ d. gave (d, none)) (doneOf q)
 
--- the root at node n does what a statement's root does, whatever its address
-pub record Acting (g : Given) (f : Facts) (n : ℕ) (w₀ o₀ : List ℕ) (a₀ : Counts) (r : Acted) (w o : List ℕ) : Type 0 where
-  pub runs : (P : Program) → Named f P → (at : Option ℕ) (t : Tree) → Stands (g .nodes) n t
-      → Runs g (λ x. statements.outcome P (x .env) at (look (x .env) t)) w₀ o₀ a₀ (actsEnd at (r .outcome)) w o (r .at)
-  pub ready : Kept (actsEnd none (r .outcome)) (Ready g w (r .at))
-  pub tables : Kept (actsEnd none (r .outcome)) (tables w ≡ tables w₀)
+-- in nodes b, with symbols s and regions r, the root at node n does what a statement's root does, whatever its address
+pub record Acting (b s r : List ℕ) (f : Facts) (n : ℕ) (w₀ o₀ : List ℕ) (q : Acts) (w o : List ℕ) : Type 0 where
+  pub goes : (P : Program) → Named f P → (at : Option ℕ) (t : Tree) → Stands b n t
+      → going.Goes (given b s r) (λ x. statements.outcome P (x .env) at (look (x .env) t)) w₀ o₀ (actsEnd at q) w o
+  pub remains : Kept (actsEnd none q) (Remains (given b s r) w₀ w)
 
--- the step of what was done is sent, with the note of the workspace w
-pub record Sends (how : How) (site : Site) (d : Did) (w o : List ℕ) (a r : Counts) (o′ : List ℕ) : Type 0 where
-  pub sent : Sent (not (how .second)) o (a .tally .recorded) (stepBytes (stepFields (stepAs site d (pendingIn (notePart w))))) o′ (r .tally .recorded)
-  pub rest : r ≡ withRecorded (r .tally .recorded) a
+-- the step of what was done is sent, with the note of the workspace w, and its end kept in the registers
+pub record Sends (site : Site) (d : Did) (w o w′ o′ : List ℕ) : Type 0 where
+  pub aside : Aside w w′
+  pub how : howIn w′ ≡ howIn w
+  pub counts : countsIn w′ ≡ withRecorded (countsIn w′ .tally .recorded) (countsIn w)
+  pub sent : Sent (not (howIn w .second)) o (countsIn w .tally .recorded) (stepBytes (stepFields (stepAs site d (pendingIn (notePart w))))) o′ (countsIn w′ .tally .recorded)
 
-abbrev pub SendsIf : How → Site → Ending statements.Outcome → List ℕ → List ℕ → Counts → Counts → List ℕ → Type 0
-SendsIf how site (ended v) w o a r o′ = Sends how site (v .0) w o a r o′
-SendsIf how site (short (some y)) w o a r o′ = Sends how site (did noNote) w o a r o′
-SendsIf how site (short none) w o a r o′ = Unit
+abbrev pub SendsIf : Site → Ending statements.Outcome → List ℕ → List ℕ → List ℕ → List ℕ → Type 0
+SendsIf site (ended v) w o w′ o′ = Sends site (v .0) w o w′ o′
+SendsIf site (short (some y)) w o w′ o′ = Sends site (did noNote) w o w′ o′
+SendsIf site (short none) w o w′ o′ = w′ ≡ w
 
 -- a statement's outcome is concluded, unless there is no room
-pub record Concludes (how : How) (site : Site) (w o : List ℕ) (a : Acted) (r : Stepped) (o′ : List ℕ) : Type 0 where
-  pub halt : HaltIs (optionOf (site .address)) (a .outcome) (r .halt)
-  pub sends : SendsIf how site (actsEnd (optionOf (site .address)) (a .outcome)) w o (a .at) (r .at) o′
+pub record Concludes (site : Site) (w o : List ℕ) (q : Acts) (r : Halt) (w′ o′ : List ℕ) : Type 0 where
+  pub halt : HaltIs (optionOf (site .address)) q r
+  pub sends : SendsIf site (actsEnd (optionOf (site .address)) q) w o w′ o′
 
--- statement k is run, of block b
-pub record RunsStatement (g : Given) (ss : List ℕ) (f : Facts) (b k : ℕ) (w₀ o₀ : List ℕ) (a₀ : Counts) (r : Stepped) (w o : List ℕ) : Type 0 where
-  pub runs : (P : Program) → Named f P → (limit : ℕ)
-      → Runs g (λ x. statements.runStatement P (x .env) b (statementAt (g .nodes) ss k)) w₀ o₀ a₀ (haltEnd limit (r .halt)) w o (r .at)
-  pub ready : Kept (haltEnd 0 (r .halt)) (Ready g w (r .at))
-  pub tables : Kept (haltEnd 0 (r .halt)) (tables w ≡ tables w₀)
+-- statement k is run, of block n
+pub record RunsStatement (b s r ss : List ℕ) (f : Facts) (n k : ℕ) (w₀ o₀ : List ℕ) (h : Halt) (w o : List ℕ) : Type 0 where
+  pub goes : (P : Program) → Named f P → (limit : ℕ)
+      → going.Goes (given b s r) (λ x. statements.runStatement P (x .env) n (statementAt b ss k)) w₀ o₀ (haltEnd limit h) w o
+  pub remains : Kept (haltEnd 0 h) (Remains (given b s r) w₀ w)
 
 -- ---- terminators
 
@@ -97,14 +97,6 @@ switches root cases v = elim (v .known) [
   | true ↦ elim (caseOf cases (walk.extended v)) [ none ↦ stopped (noCase (walk.extended v)) | some b ↦ gave b ]
 ]
 
-pub record Taken (root taken next : ℕ) (e : Evaluated) (r : Led) : Type 0 where
-  pub at : r .at ≡ e .at
-  pub is : leadEnd (r .lead) ≡ bindEnd (branches root taken next) (endOf (e .outcome))
-
-pub record Chosen (blocks : List ℕ) (start count root : ℕ) (e : Evaluated) (r : Led) : Type 0 where
-  pub at : r .at ≡ e .at
-  pub is : leadEnd (r .lead) ≡ bindEnd (switches root (listed (caseAt blocks (start + 24)) 0 count)) (endOf (e .outcome))
-
 -- the statements of the block at a place, whatever the nodes
 abbrev pub statementsAt : (nodes statements blocks : List ℕ) → Place → List Statement
 statementsAt nodes ss blocks p = listed (statementAt nodes ss) (p .first) (numberAt blocks (p .start) 2)
@@ -120,14 +112,13 @@ abbrev pub Outside : Next → Type 0
 Outside (Stops s) = Unit
 Outside (Goes s) = s .inside ≡ false
 
-pub record Leads (ss blocks : List ℕ) (p : Place) (address : Maybe) (l : Led) (r : Moved) : Type 0 where
-  pub at : r .at ≡ l .at
-  pub is : (nodes : List ℕ) (limit : ℕ) → nextEnd limit (r .next) ≡ triedEnd (walk.leftTo (walk.addressOr (optionOf address) (statementsAt nodes ss blocks p))) (leadEnd (l .lead))
-  pub outside : Outside (r .next)
+pub record Leads (ss blocks : List ℕ) (p : Place) (address : Maybe) (l : Lead) (q : Next) : Type 0 where
+  pub is : (nodes : List ℕ) (limit : ℕ) → nextEnd limit q ≡ triedEnd (walk.leftTo (walk.addressOr (optionOf address) (statementsAt nodes ss blocks p))) (leadEnd l)
+  pub outside : Outside q
 
 abbrev pub blockOf : (nodes statements blocks : List ℕ) → Place → Block
 blockOf nodes ss blocks p = blockAt nodes ss blocks (p .start) (p .first)
 
-pub record Terminates (g : Given) (ss blocks : List ℕ) (p : Place) (w₀ o₀ : List ℕ) (a₀ : Counts) (r : Moved) (w o : List ℕ) : Type 0 where
-  pub runs : (limit : ℕ) → Runs g (λ x. walk.terminate (x .env) (blockOf (g .nodes) ss blocks p .statements) (blockOf (g .nodes) ss blocks p .terminator)) w₀ o₀ a₀ (nextEnd limit (r .next)) w o (r .at)
-  pub outside : Outside (r .next)
+pub record Terminates (b s r ss blocks : List ℕ) (p : Place) (w₀ o₀ : List ℕ) (q : Next) (w o : List ℕ) : Type 0 where
+  pub goes : (limit : ℕ) → going.Goes (given b s r) (λ x. walk.terminate (x .env) (blockOf b ss blocks p .statements) (blockOf b ss blocks p .terminator)) w₀ o₀ (nextEnd limit q) w o
+  pub outside : Outside q

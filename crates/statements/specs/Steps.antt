@@ -14,7 +14,6 @@ use Rattle.workspace.specs.Note.{noted}
 use Rattle.stream.specs.declared.NotePiece.{NotePiece}
 use Rattle.stream.specs.declared.StepPiece.{StepPiece}
 use Rattle.stream.specs.Pieces.{noteFrom}
-use Rattle.hosting.specs.declared.Counts.{Counts}
 use Rattle.hosting.specs.declared.Note.{Note}
 use Rattle.hosting.specs.declared.Note.the-variants.{Nothing, Fields, Written, Unknown}
 use Rattle.hosting.specs.declared.Did.{Did}
@@ -51,10 +50,3 @@ pieceOf s d n = record {
 -- the definition's step of what was done, with the pending note
 abbrev pub stepAs : Site → ev.Did → Pending → Step
 stepAs s d p = record { address = optionOf (s .address); block = s .block; statement = s .statement; wrote = d .wrote; note = statements.noteOf (d .note) p }
-
--- the counts with another cursor of the steps
-abbrev pub withRecorded : ℕ → Counts → Counts
-withRecorded cursor a = record {
-  stored = a .stored;
-  tally = record { recorded = cursor; asked = a .tally .asked; left = a .tally .left; entered = a .tally .entered; steps = a .tally .steps };
-}

@@ -4,34 +4,33 @@ ghost use Prim.Native.Nat.{_+_, _*_, _≤_};
 ghost use lib.ListN.{length};
 ghost use Rattle.files.specs.Nodes.{kindOf};
 ghost use Rattle.workspace.specs.View.{Fit};
-ghost use Rattle.hosting.specs.Scene.{given, Ready};
+ghost use Rattle.hosting.specs.Scene.{given};
 ghost use Rattle.hosting.specs.Stands.{Fine};
 ghost use Rattle.definition.specs.Act.{noNote};
 ghost use Rattle.definition.specs.Evaluate.{did};
 ghost use Rattle.hosting.specs.Routine.{returnsAs};
 ghost use Rattle.hosting.specs.Ending.{didOf};
 ghost use Rattle.hosting.specs.Runs.{Kept};
+ghost use Rattle.operations.specs.Registers.{countsIn};
+ghost use Rattle.operations.specs.Going.{ReadyIn};
 ghost use Rattle.index.specs.Answers.{optionOf};
 ghost use Rattle.statements.specs.Endings.{actsEnd, didIn, fullIn, HaltIs};
 ghost use Rattle.statements.specs.Sorts.{Sorted, RootsOf};
 ghost use Rattle.statements.specs.Post.{Gave, Executing, Acting, Sends, Concludes, RunsStatement};
 use crate::steps::Site;
 use crate::steps::send;
-use hosting::Counts;
 use hosting::Did;
 use hosting::Done;
-use hosting::Evaluated;
-use hosting::Executed;
 use hosting::Facts;
-use hosting::How;
 use hosting::Note;
 use hosting::Outcome;
 use hosting::Returns;
 use hosting::Short;
 use hosting::Stop;
-use hosting::Tally;
 use index::Maybe;
+use operations::results::RECORDED;
 use value::Val;
+use workspace::registers;
 
 // With what a statement's root ends: it did something, or it ends the run, with no value or with one, or as an Intrinsic does, or it ends short.
 pub enum Acts {
@@ -43,20 +42,10 @@ pub enum Acts {
     Fails(Short),
 }
 
-pub struct Acted {
-    pub outcome: Acts,
-    pub at: Counts,
-}
-
 // Whether the run stops after a statement.
 pub enum Halt {
     Not,
     With(Stop),
-}
-
-pub struct Stepped {
-    pub halt: Halt,
-    pub at: Counts,
 }
 
 // What a statement's root is.
@@ -106,20 +95,12 @@ fn returned(returns: Returns, v: Val) -> Val
 }
 
 // A value is returned.
-fn gave(returns: Returns, e: Evaluated) -> Acted
+fn gave(returns: Returns, e: Outcome) -> Acts
     ensures { λ r. ⌜ Gave returns e r ⌝ }
 {
-    let o = e.outcome;
-    let at = e.at;
-    match o {
-        Outcome::Is(v) => Acted {
-            outcome: Acts::Gives(returned(returns, v)),
-            at,
-        },
-        Outcome::Ends(s) => Acted {
-            outcome: Acts::Fails(s),
-            at,
-        },
+    match e {
+        Outcome::Is(v) => Acts::Gives(returned(returns, v)),
+        Outcome::Ends(s) => Acts::Fails(s),
     }
 }
 
@@ -130,41 +111,28 @@ fn give(
     regions: &[u8],
     ws: &mut [u8],
     out: &mut [u8],
-    how: How,
     facts: Facts,
     n: usize,
-    at: Counts,
-) -> Acted
-    requires { ⌜ Ready (given (now nodes) (now symbols) (now regions) how) (now ws) at ⌝ }
+) -> Acts
+    requires { ⌜ ReadyIn (given (now nodes) (now symbols) (now regions)) (now ws) ⌝ }
     requires { ⌜ (Fine (now nodes) n) × (kindOf (now nodes) n ≡ 16) ⌝ }
-    ensures { λ r. ⌜ Acting (given (now (nodes .entry)) (now (symbols .entry)) (now (regions .entry)) how) facts n (now (ws .entry)) (now (out .entry)) at r (now (ws .exit)) (now (out .exit)) ⌝ }
+    ensures { λ r. ⌜ Acting (now (nodes .entry)) (now (symbols .entry)) (now (regions .entry)) facts n (now (ws .entry)) (now (out .entry)) r (now (ws .exit)) (now (out .exit)) ⌝ }
 {
     if files::nodes::span(nodes, n) == 1 {
-        return Acted {
-            outcome: Acts::Leaves,
-            at,
-        };
+        return Acts::Leaves;
     }
-    let e = machine::eval(nodes, symbols, regions, ws, out, how, n + 1, at);
+    let e = machine::eval(nodes, symbols, regions, ws, out, n + 1);
     let returns = facts.returns;
     gave(returns, e)
 }
 
 // What executing came to.
-fn done(q: Executed) -> Acted
+fn done(q: Done) -> Acts
     ensures { λ r. ⌜ Executing q r ⌝ }
 {
-    let o = q.outcome;
-    let at = q.at;
-    match o {
-        Done::Does(d) => Acted {
-            outcome: Acts::Does(d),
-            at,
-        },
-        Done::Fails(s) => Acted {
-            outcome: Acts::Fails(s),
-            at,
-        },
+    match q {
+        Done::Does(d) => Acts::Does(d),
+        Done::Fails(s) => Acts::Fails(s),
     }
 }
 
@@ -175,27 +143,19 @@ fn act(
     regions: &[u8],
     ws: &mut [u8],
     out: &mut [u8],
-    how: How,
     facts: Facts,
     n: usize,
-    at: Counts,
-) -> Acted
-    requires { ⌜ Ready (given (now nodes) (now symbols) (now regions) how) (now ws) at ⌝ }
+) -> Acts
+    requires { ⌜ ReadyIn (given (now nodes) (now symbols) (now regions)) (now ws) ⌝ }
     requires { ⌜ Fine (now nodes) n ⌝ }
-    ensures { λ r. ⌜ Acting (given (now (nodes .entry)) (now (symbols .entry)) (now (regions .entry)) how) facts n (now (ws .entry)) (now (out .entry)) at r (now (ws .exit)) (now (out .exit)) ⌝ }
+    ensures { λ r. ⌜ Acting (now (nodes .entry)) (now (symbols .entry)) (now (regions .entry)) facts n (now (ws .entry)) (now (out .entry)) r (now (ws .exit)) (now (out .exit)) ⌝ }
 {
     let sort = sort_of(nodes, facts, n);
     match sort {
-        Sort::Gives => give(nodes, symbols, regions, ws, out, how, facts, n, at),
-        Sort::Unreachable => Acted {
-            outcome: Acts::Strays,
-            at,
-        },
-        Sort::Halts => Acted {
-            outcome: Acts::Halts(files::nodes::value(nodes, n + 1)),
-            at,
-        },
-        Sort::Plain => done(machine::execute(nodes, symbols, regions, ws, out, how, n, at)),
+        Sort::Gives => give(nodes, symbols, regions, ws, out, facts, n),
+        Sort::Unreachable => Acts::Strays,
+        Sort::Halts => Acts::Halts(files::nodes::value(nodes, n + 1)),
+        Sort::Plain => done(machine::execute(nodes, symbols, regions, ws, out, n)),
     }
 }
 
@@ -253,40 +213,27 @@ fn is_full(o: Acts) -> bool
     }
 }
 
-// A step is recorded: the counts after it.
-fn recorded(ws: &[u8], out: &mut [u8], how: How, site: Site, did: Did, at: Counts) -> Counts
-    requires { ⌜ Fit (now ws) (at .stored) ⌝ }
-    ensures { λ r. ⌜ Sends how site (didOf did) (now (ws .entry)) (now (out .entry)) at r (now (out .exit)) ⌝ }
+// A step is recorded: the cursor of the steps moves past it.
+fn recorded(ws: &mut [u8], out: &mut [u8], site: Site, did: Did)
+    requires { ⌜ Fit (now ws) (countsIn (now ws) .stored) ⌝ }
+    ensures { λ _. ⌜ Sends site (didOf did) (now (ws .entry)) (now (out .entry)) (now (ws .exit)) (now (out .exit)) ⌝ }
 {
-    let t = at.tally;
-    Counts {
-        stored: at.stored,
-        tally: Tally {
-            recorded: send(ws, out, how, site, did, t.recorded),
-            asked: t.asked,
-            left: t.left,
-            entered: t.entered,
-            steps: t.steps,
-        },
-    }
+    let cursor = send(ws, out, site, did, registers::word(ws, RECORDED));
+    registers::set_word(ws, RECORDED, cursor);
 }
 
 // The step of what was done, unless the workspace has no room left.
-fn conclude(ws: &[u8], out: &mut [u8], how: How, site: Site, a: Acted) -> Stepped
-    requires { ⌜ Kept (actsEnd (optionOf (site .address)) (a .outcome)) (Fit (now ws) (a .at .stored)) ⌝ }
-    ensures { λ r. ⌜ Concludes how site (now (ws .entry)) (now (out .entry)) a r (now (out .exit)) ⌝ }
+fn conclude(ws: &mut [u8], out: &mut [u8], site: Site, o: Acts) -> Halt
+    requires { ⌜ Kept (actsEnd (optionOf (site .address)) o) (Fit (now ws) (countsIn (now ws) .stored)) ⌝ }
+    ensures { λ r. ⌜ Concludes site (now (ws .entry)) (now (out .entry)) o r (now (ws .exit)) (now (out .exit)) ⌝ }
 {
-    let o = a.outcome;
-    let at = a.at;
     let address = site.address;
     let halt = halt_of(address, o);
     if is_full(o) {
-        return Stepped { halt, at };
+        return halt;
     }
-    Stepped {
-        halt,
-        at: recorded(ws, out, how, site, did_of(o), at),
-    }
+    recorded(ws, out, site, did_of(o));
+    halt
 }
 
 // Statement k, of a block.
@@ -297,24 +244,22 @@ pub fn statement(
     regions: &[u8],
     ws: &mut [u8],
     out: &mut [u8],
-    how: How,
     facts: Facts,
     block: usize,
     k: usize,
-    at: Counts,
-) -> Stepped
-    requires { ⌜ Ready (given (now nodes) (now symbols) (now regions) how) (now ws) at ⌝ }
+) -> Halt
+    requires { ⌜ ReadyIn (given (now nodes) (now symbols) (now regions)) (now ws) ⌝ }
     requires { ⌜ (k * 13 + 13 ≤ length (now statements)) × RootsOf (now nodes) (now statements) ⌝ }
-    ensures { λ r. ⌜ RunsStatement (given (now (nodes .entry)) (now (symbols .entry)) (now (regions .entry)) how) (now (statements .entry)) facts block k (now (ws .entry)) (now (out .entry)) at r (now (ws .exit)) (now (out .exit)) ⌝ }
+    ensures { λ r. ⌜ RunsStatement (now (nodes .entry)) (now (symbols .entry)) (now (regions .entry)) (now (statements .entry)) facts block k (now (ws .entry)) (now (out .entry)) r (now (ws .exit)) (now (out .exit)) ⌝ }
 {
     workspace::note::clear_note(ws);
     let s = index::blocks::statement_at(statements, k);
     let address = s.address;
-    let a = act(nodes, symbols, regions, ws, out, how, facts, s.root, at);
+    let o = act(nodes, symbols, regions, ws, out, facts, s.root);
     let site = Site {
         address,
         block,
         statement: k,
     };
-    conclude(ws, out, how, site, a)
+    conclude(ws, out, site, o)
 }

@@ -10,16 +10,18 @@ ghost use Rattle.workspace.specs.Note.{pendingIn, taken, Few};
 ghost use Rattle.stream.specs.Stream.{Sent};
 ghost use Rattle.stream.specs.Pieces.{stepBytes};
 ghost use Rattle.hosting.specs.Ending.{didOf};
+ghost use Rattle.operations.specs.Registers.{howIn};
 ghost use Rattle.statements.specs.Steps.{OwnNote, leftPiece, takesNote, pieceOf, stepAs};
 use crate::maybe::is_known;
 use crate::maybe::number_of;
 use hosting::Did;
-use hosting::How;
 use hosting::Note;
 use index::Maybe;
+use operations::results::SECOND;
 use stream::NotePiece;
 use stream::StepPiece;
 use value::Val;
+use workspace::registers;
 
 // Which statement: its address, its block, its number among all.
 pub struct Site {
@@ -102,12 +104,12 @@ fn piece(site: Site, did: Did, note: NotePiece) -> StepPiece
     }
 }
 
-// The step of a statement that did so much, with the pending note: the cursor after it.
-pub fn send(ws: &[u8], out: &mut [u8], how: How, site: Site, did: Did, at: u64) -> u64
+// The step of a statement that did so much, with the pending note: the cursor after it. The first pass writes it.
+pub fn send(ws: &[u8], out: &mut [u8], site: Site, did: Did, at: u64) -> u64
     requires { ⌜ (workspaceSize ≤ length (now ws)) × Few (pendingIn (notePart (now ws))) ⌝ }
-    ensures { λ r. ⌜ Sent (not (how .second)) (now (out .entry)) at (stepBytes (stepFields (stepAs site (didOf did) (pendingIn (notePart (now (ws .entry))))))) (now (out .exit)) r ⌝ }
+    ensures { λ r. ⌜ Sent (not (howIn (now (ws .entry)) .second)) (now (out .entry)) at (stepBytes (stepFields (stepAs site (didOf did) (pendingIn (notePart (now (ws .entry))))))) (now (out .exit)) r ⌝ }
 {
-    let on = !how.second;
+    let on = registers::word(ws, SECOND) == 0;
     let note = did.note;
     if takes(ws, note) {
         let s = piece(site, did, left_note(workspace::note::name_count(ws)));

@@ -3,13 +3,12 @@ ghost use mathlib.Core.Path.{_≡_};
 ghost use Prim.Native.Nat.{_+_, _*_, _≤_};
 ghost use lib.ListN.{length};
 ghost use Rattle.files.specs.Program.{listed, caseAt};
-ghost use Rattle.hosting.specs.Scene.{given, Ready};
-ghost use Rattle.statements.specs.Endings.{endEnd, leadEnd};
+ghost use Rattle.hosting.specs.Scene.{given};
+ghost use Rattle.hosting.specs.Ending.{endOf};
+ghost use Rattle.operations.specs.Going.{ReadyIn};
+ghost use Rattle.statements.specs.Endings.{endEnd, leadEnd, bindEnd};
 ghost use Rattle.statements.specs.Placing.{Dealt, Placing};
-ghost use Rattle.statements.specs.Post.{branches, switches, Taken, Chosen, LastIs, AddressIs, Leads, Terminates};
-use hosting::Counts;
-use hosting::Evaluated;
-use hosting::How;
+ghost use Rattle.statements.specs.Post.{branches, switches, LastIs, AddressIs, Leads, Terminates};
 use hosting::Outcome;
 use hosting::Short;
 use hosting::Stop;
@@ -30,20 +29,10 @@ pub enum Next {
     Goes(Spot),
 }
 
-pub struct Moved {
-    pub next: Next,
-    pub at: Counts,
-}
-
 // The block that comes next, or why none does.
 pub enum Lead {
     To(usize),
     Fails(Short),
-}
-
-pub struct Led {
-    pub lead: Lead,
-    pub at: Counts,
 }
 
 // A Branch: a block for a value other than 0, else the next.
@@ -85,38 +74,23 @@ fn switch_to(blocks: &[u8], start: usize, count: usize, root: usize, v: Val) -> 
     }
 }
 
-fn taken(root: usize, taken: usize, next: usize, e: Evaluated) -> Led
-    ensures { λ r. ⌜ Taken root taken next e r ⌝ }
+// The same of what was evaluated.
+fn taken(root: usize, taken: usize, next: usize, e: Outcome) -> Lead
+    ensures { λ r. ⌜ leadEnd r ≡ bindEnd (branches root taken next) (endOf e) ⌝ }
 {
-    let o = e.outcome;
-    let at = e.at;
-    match o {
-        Outcome::Is(v) => Led {
-            lead: branch_to(root, taken, next, v),
-            at,
-        },
-        Outcome::Ends(s) => Led {
-            lead: Lead::Fails(s),
-            at,
-        },
+    match e {
+        Outcome::Is(v) => branch_to(root, taken, next, v),
+        Outcome::Ends(s) => Lead::Fails(s),
     }
 }
 
-fn chosen(blocks: &[u8], start: usize, count: usize, root: usize, e: Evaluated) -> Led
+fn chosen(blocks: &[u8], start: usize, count: usize, root: usize, e: Outcome) -> Lead
     requires { ⌜ start + 24 + count * 12 ≤ length (now blocks) ⌝ }
-    ensures { λ r. ⌜ Chosen (now (blocks .entry)) start count root e r ⌝ }
+    ensures { λ r. ⌜ leadEnd r ≡ bindEnd (switches root (listed (caseAt (now (blocks .entry)) (start + 24)) 0 count)) (endOf e) ⌝ }
 {
-    let o = e.outcome;
-    let at = e.at;
-    match o {
-        Outcome::Is(v) => Led {
-            lead: switch_to(blocks, start, count, root, v),
-            at,
-        },
-        Outcome::Ends(s) => Led {
-            lead: Lead::Fails(s),
-            at,
-        },
+    match e {
+        Outcome::Is(v) => switch_to(blocks, start, count, root, v),
+        Outcome::Ends(s) => Lead::Fails(s),
     }
 }
 
@@ -145,25 +119,19 @@ fn address_or(statements: &[u8], blocks: &[u8], place: Place, address: Maybe) ->
 }
 
 // A block comes next, or the run stops.
-fn lead_on(statements: &[u8], blocks: &[u8], place: Place, address: Maybe, l: Led) -> Moved
+fn lead_on(statements: &[u8], blocks: &[u8], place: Place, address: Maybe, lead: Lead) -> Next
     requires { ⌜ Dealt (now statements) (now blocks) place ⌝ }
-    ensures { λ r. ⌜ Leads (now (statements .entry)) (now (blocks .entry)) place address l r ⌝ }
+    ensures { λ r. ⌜ Leads (now (statements .entry)) (now (blocks .entry)) place address lead r ⌝ }
 {
-    let lead = l.lead;
-    let at = l.at;
     match lead {
-        Lead::To(block) => Moved {
-            next: Next::Goes(Spot {
-                block,
-                statement: 0,
-                inside: false,
-            }),
-            at,
-        },
-        Lead::Fails(s) => Moved {
-            next: Next::Stops(Stop::Unknown(address_or(statements, blocks, place, address), s)),
-            at,
-        },
+        Lead::To(block) => Next::Goes(Spot {
+            block,
+            statement: 0,
+            inside: false,
+        }),
+        Lead::Fails(s) => {
+            Next::Stops(Stop::Unknown(address_or(statements, blocks, place, address), s))
+        }
     }
 }
 
@@ -176,35 +144,27 @@ pub fn terminate(
     regions: &[u8],
     ws: &mut [u8],
     out: &mut [u8],
-    how: How,
     place: Place,
-    at: Counts,
-) -> Moved
-    requires { ⌜ Ready (given (now nodes) (now symbols) (now regions) how) (now ws) at ⌝ }
+) -> Next
+    requires { ⌜ ReadyIn (given (now nodes) (now symbols) (now regions)) (now ws) ⌝ }
     requires { ⌜ Placing (now nodes) (now statements) (now blocks) place ⌝ }
-    ensures { λ r. ⌜ Terminates (given (now (nodes .entry)) (now (symbols .entry)) (now (regions .entry)) how) (now (statements .entry)) (now (blocks .entry)) place (now (ws .entry)) (now (out .entry)) at r (now (ws .exit)) (now (out .exit)) ⌝ }
+    ensures { λ r. ⌜ Terminates (now (nodes .entry)) (now (symbols .entry)) (now (regions .entry)) (now (statements .entry)) (now (blocks .entry)) place (now (ws .entry)) (now (out .entry)) r (now (ws .exit)) (now (out .exit)) ⌝ }
 {
     let t = index::blocks::terminator_at(blocks, place.start);
     match t {
-        Terminator::Return => Moved {
-            next: Next::Stops(Stop::ReturnedNothing),
-            at,
-        },
-        Terminator::Goto(block) => Moved {
-            next: Next::Goes(Spot {
-                block,
-                statement: 0,
-                inside: false,
-            }),
-            at,
-        },
+        Terminator::Return => Next::Stops(Stop::ReturnedNothing),
+        Terminator::Goto(block) => Next::Goes(Spot {
+            block,
+            statement: 0,
+            inside: false,
+        }),
         Terminator::Branch {
             address,
             root,
             taken: yes,
             next,
         } => {
-            let e = machine::eval(nodes, symbols, regions, ws, out, how, root, at);
+            let e = machine::eval(nodes, symbols, regions, ws, out, root);
             lead_on(
                 statements,
                 blocks,
@@ -218,7 +178,7 @@ pub fn terminate(
             root,
             count,
         } => {
-            let e = machine::eval(nodes, symbols, regions, ws, out, how, root, at);
+            let e = machine::eval(nodes, symbols, regions, ws, out, root);
             let l = chosen(blocks, place.start, count, root, e);
             lead_on(statements, blocks, place, address, l)
         }

@@ -1,5 +1,5 @@
 -- The index of blocks read where it lies in the workspace, and the walk of a routine that has none. Assumes nothing.
-use mathlib.Core.Path.{_≡_, refl, sym, ap, subst}
+use mathlib.Core.Path.{_≡_, refl, sym, ap, _∙_, subst}
 use mathlib.Core.List.{List, [], _∷_}
 use mathlib.Core.Option.{none, some}
 use Prim.Native.Nat.{ℕ, _+_, _<_}
@@ -15,13 +15,19 @@ use Rattle.index.specs.Blocks.{BlockTold, Placed}
 use Rattle.workspace.specs.Parts.{tablesPlace, blocksPlace, blocksSize, tables, blocksPart}
 use Rattle.workspace.proofs.LendLaws.{blocks-lent}
 use Rattle.hosting.specs.declared.Counts.{Counts}
+use Rattle.hosting.specs.declared.How.{How}
 use Rattle.hosting.specs.declared.Facts.{Facts}
+use Rattle.hosting.specs.declared.Stop.{Stop}
 use Rattle.hosting.specs.declared.Stop.the-variants.{NoBlocks}
-use Rattle.hosting.specs.declared.Walked.{Walked}
-use Rattle.hosting.specs.Scene.{Given, Ready}
+use Rattle.hosting.specs.Scene.{Given, given, Ready}
 use Rattle.hosting.specs.Routine.{Rooted}
-use Rattle.hosting.specs.Walking.{WalksAll}
-use Rattle.hosting.proofs.Running.{acts, done-runs}
+use Rattle.hosting.specs.Runs.{Runs}
+use Rattle.hosting.specs.Walking.{stopEnd, WalksAll}
+use Rattle.hosting.proofs.Running.{acts, told, done-runs}
+use Rattle.operations.specs.Registers.{countsIn, howIn}
+use Rattle.operations.specs.Steps.{Enters}
+use Rattle.operations.proofs.Entering.{enters-before}
+use Rattle.walk.specs.Units.{Balanced}
 use Rattle.walk.specs.Post.{walkOn, WalksFrom}
 use Rattle.walk.proofs.WalkLaws.{block-found-at, block-missing, finish}
 
@@ -57,11 +63,28 @@ walk-some P E limit {b} e = go (P .blocks) e
     go [] h = absurd (let z : _≡_ {A = ℕ} 0 1 = cc in omega arith)
     go (c ∷ cs) h = refl
 
-module _ {g : Given} {ss blocks part : List ℕ} {f : Facts} {w₀ o₀ : List ℕ} {a₀ : Counts} (all : Rooted (g .nodes) ss blocks part (f .blocks)) where
-  pub walks-none : {limit : ℕ} → f .blocks ≡ 0 → Ready g w₀ a₀ → WalksAll g ss blocks f limit w₀ o₀ a₀ (record { stop = NoBlocks; at = a₀ }) w₀ o₀
-  walks-none {limit} z r = record {
-    runs = λ P told. acts (λ x h. walk-none P (x .env) limit (no-blocks (P .blocks) (block-missing all P told 0 (omega arith)))) (done-runs (λ x. statements.NoBlocks) (λ x h. refl) r);
-  }
+pub walks-none : {g : Given} {ss blocks part : List ℕ} {f : Facts} {w o : List ℕ} {a : Counts} {limit : ℕ} → Rooted (g .nodes) ss blocks part (f .blocks) → f .blocks ≡ 0 → Ready g w a
+    → WalksAll g ss blocks f limit w o a (record { stop = NoBlocks; at = a }) w o
+walks-none {limit = limit} all z r = record {
+  runs = λ P told. acts (λ x h. walk-none P (x .env) limit (no-blocks (P .blocks) (block-missing all P told 0 (omega arith)))) (done-runs (λ x. statements.NoBlocks) (λ x h. refl) r);
+}
 
-  pub walks-all : {w o : List ℕ} {r : Walked} → (f .blocks ≡ 0 → ⊥) → WalksFrom g ss blocks f w₀ o₀ a₀ r w o → WalksAll g ss blocks f (a₀ .tally .left) w₀ o₀ a₀ r w o
-  walks-all ne s = record { runs = λ P told. acts (λ x h. walk-some P (x .env) (a₀ .tally .left) (block-found-at all P told 0 (omega arith))) (s .runs P told (a₀ .tally .left)) }
+-- the walk from what was handed over is the walk from the registers
+module _ {w₀ : List ℕ} {h : How} {a₀ : Counts} {w₁ : List ℕ} (en : Enters w₀ h a₀ w₁) where
+  pub enters-rooted : {nodes ss blocks : List ℕ} {count : ℕ} → Rooted nodes ss blocks (blocksPart (tables w₀)) count → Rooted nodes ss blocks (blocksPart (tables w₁)) count
+  enters-rooted {nodes} {ss} {blocks} {count} all = subst (λ (t : List ℕ). Rooted nodes ss blocks (blocksPart t) count) (sym (en .aside .tables)) all
+
+  pub enters-balanced : Balanced (a₀ .tally) → Balanced (countsIn w₁ .tally)
+  enters-balanced b = subst (λ (c : Counts). Balanced (c .tally)) (sym (en .counts)) b
+
+  pub walks-all : {nodes symbols regions ss blocks part : List ℕ} {f : Facts} {o₀ w o : List ℕ} {stop : Stop} {a : Counts} → Rooted nodes ss blocks part (f .blocks) → (f .blocks ≡ 0 → ⊥)
+      → WalksFrom (given nodes symbols regions (howIn w₁)) ss blocks f w₁ o₀ stop w o → a ≡ countsIn w
+      → WalksAll (given nodes symbols regions h) ss blocks f (a₀ .tally .left) w₀ o₀ a₀ (record { stop = stop; at = a }) w o
+  walks-all {nodes} {symbols} {regions} {o₀ = o₀} {w = w} {o = o} {stop = stop} all ne s is = record {
+    runs = λ P t.
+        acts (λ x m. walk-some P (x .env) (a₀ .tally .left) (block-found-at all P t 0 (omega arith)) ∙ ap (λ (c : Counts). walkOn P (x .env) (a₀ .tally .left) (c .tally .left) (walk.before 0)) (sym (en .counts)))
+        (told refl is
+        (enters-before en
+        (subst (λ (z : How). Runs (given nodes symbols regions z) (λ x. walkOn P (x .env) (a₀ .tally .left) (countsIn w₁ .tally .left) (walk.before 0)) w₁ o₀ (countsIn w₁) (stopEnd (a₀ .tally .left) stop) w o (countsIn w))
+        (en .how) (s .runs P t (a₀ .tally .left)))));
+  }

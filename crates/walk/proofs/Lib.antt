@@ -1,5 +1,4 @@
 pub mod UnitLaws
 pub mod Spending
-pub mod Unpaid
 pub mod WalkLaws
 pub mod IndexLaws

@@ -19,33 +19,39 @@ use Rattle.definition.specs.Statements as statements
 use Rattle.definition.specs.Walk as walk
 use Rattle.index.specs.declared.blocks.Place.{Place}
 use Rattle.index.specs.Blocks.{Placed}
-use Rattle.workspace.specs.Parts.{tables}
+use Rattle.workspace.specs.Parts.{registersPart}
+use Rattle.workspace.specs.Registers.{wordAt}
+use Rattle.workspace.specs.Post.{SetsWord}
 use Rattle.hosting.specs.declared.Counts.{Counts}
 use Rattle.hosting.specs.declared.Tally.{Tally}
+use Rattle.hosting.specs.declared.How.{How}
 use Rattle.hosting.specs.declared.Facts.{Facts}
 use Rattle.hosting.specs.declared.Stop.{Stop}
 use Rattle.hosting.specs.Stands.{Stands}
-use Rattle.hosting.specs.Scene.{Given, Scene, Ready}
+use Rattle.hosting.specs.Scene.{Given, given, Scene, Ready}
 use Rattle.hosting.specs.Held.{paidTally}
 use Rattle.hosting.specs.Ending.{Ending, ended, short}
-use Rattle.hosting.specs.Runs.{Kept, Runs}
+use Rattle.hosting.specs.Runs.{Kept}
 use Rattle.hosting.specs.Routine.{Rooted}
 use Rattle.hosting.specs.Walking.{stopEnd}
-use Rattle.hosting.proofs.Running.{kept-on, goes, halts, acts, read, done-runs}
+use Rattle.hosting.proofs.Running.{kept-on}
 use Rattle.hosting.proofs.Keeping.{kept-ready}
+use Rattle.operations.specs.Registers.{countsIn}
+use Rattle.operations.specs.Going.{ReadyIn, Remains}
+use Rattle.operations.specs.Going as going
+use Rattle.operations.proofs.Registers.{counts-by, how-before, aside-aside}
+use Rattle.operations.proofs.Going.{done-goes, goes, halts, acts, told, remains}
 use Rattle.statements.specs.declared.terminators.Spot.{Spot}
 use Rattle.statements.specs.declared.terminators.Next.{Next}
 use Rattle.statements.specs.declared.terminators.Next.the-variants.{Stops, Goes}
-use Rattle.statements.specs.declared.terminators.Moved.{Moved}
 use Rattle.statements.specs.declared.statements.Halt.{Halt}
 use Rattle.statements.specs.declared.statements.Halt.the-variants.{Not, With}
-use Rattle.statements.specs.declared.statements.Stepped.{Stepped}
 use Rattle.statements.specs.Endings.{haltEnd, someEnd, stopsEnd, nextEnd}
 use Rattle.statements.specs.Placing.{Placing}
 use Rattle.walk.specs.Spots.{Here, PlacedAt}
 use Rattle.walk.specs.Units.{paidCounts}
 use Rattle.statements.specs.Post.{RunsStatement, blockOf, Outside, Terminates}
-use Rattle.walk.specs.Post.{Stays, Settles, runAct, RunsAt, aheadOf, unitAct, UnitOf}
+use Rattle.walk.specs.Post.{Pays, Stays, Settles, runAct, RunsAt, aheadOf, unitAct, UnitOf}
 
 -- ---- before a statement of a block
 
@@ -65,17 +71,17 @@ outside-stays : (blocks : List ℕ) (p : Place) (b : ℕ) (n : Next) → Outside
 outside-stays blocks p b (Stops s) h = tt
 outside-stays blocks p b (Goes s) h = λ e. absurd (true≢false (sym e ∙ h))
 
-module _ {g : Given} {ss blocks : List ℕ} {p : Place} {b k n : ℕ} (count : (n ≡ numberAt blocks (p .start) 2) × (n < 65536)) where
-  pub settles-within : {w o : List ℕ} {a : Counts} → k < n → Ready g w a → Settles g ss blocks p b k w o a (record { next = Goes (record { block = b; statement = k; inside = true }); at = a }) w o
-  settles-within l r = record {
-    runs = λ limit. acts (λ x h. settle-by (x .env) (g .nodes) ss blocks p b k true (lt-ltb k (numberAt blocks (p .start) 2) (omega (arith, count .0)))) (done-runs (λ x. walk.goes (walk.within b k)) (λ x h. refl) r);
+module _ {nodes symbols regions ss blocks : List ℕ} {p : Place} {b k n : ℕ} (count : (n ≡ numberAt blocks (p .start) 2) × (n < 65536)) where
+  pub settles-within : {w o : List ℕ} → k < n → Settles nodes symbols regions ss blocks p b k w o (Goes (record { block = b; statement = k; inside = true })) w o
+  settles-within l = record {
+    goes = λ limit. acts (λ h x m. settle-by (x .env) nodes ss blocks p b k true (lt-ltb k (numberAt blocks (p .start) 2) (omega (arith, count .0)))) (done-goes (λ x. walk.goes (walk.within b k)) (λ h x m. refl));
     stays = λ e. (refl, omega (arith, count .0));
   }
 
-  pub settles-past : {w₀ o₀ w o : List ℕ} {a₀ : Counts} {r : Moved} → n ≤ k → Terminates g ss blocks p w₀ o₀ a₀ r w o → Settles g ss blocks p b k w₀ o₀ a₀ r w o
-  settles-past {r = r} l t = record {
-    runs = λ limit. acts (λ x h. settle-by (x .env) (g .nodes) ss blocks p b k false (le-ltb k (numberAt blocks (p .start) 2) (omega (arith, count .0)))) (t .runs limit);
-    stays = outside-stays blocks p b (r .next) (t .outside);
+  pub settles-past : {w₀ o₀ w o : List ℕ} {q : Next} → n ≤ k → Terminates nodes symbols regions ss blocks p w₀ o₀ q w o → Settles nodes symbols regions ss blocks p b k w₀ o₀ q w o
+  settles-past {q = q} l t = record {
+    goes = λ limit. acts (λ h x m. settle-by (x .env) nodes ss blocks p b k false (le-ltb k (numberAt blocks (p .start) 2) (omega (arith, count .0)))) (t .goes limit);
+    stays = outside-stays blocks p b q (t .outside);
   }
 
 -- ---- what is run at a spot
@@ -90,19 +96,17 @@ statement-small {blocks} {p} h = omega (arith, h .below, numberAt-lt blocks (p .
 abbrev spotBy : Spot → Bool → Spot
 spotBy s i = record { block = s .block; statement = s .statement; inside = i }
 
-module _ {g : Given} {ss : List ℕ} {f : Facts} {p : Place} {s : Spot} where
-  pub runs-statement : {w₀ o₀ w o : List ℕ} {a₀ : Counts} {r : Stepped} → s .inside ≡ true → RunsStatement g ss f (s .block) (p .first + s .statement) w₀ o₀ a₀ r w o → RunsAt g ss f p s w₀ o₀ a₀ r w o
+module _ {nodes symbols regions ss : List ℕ} {f : Facts} {p : Place} {s : Spot} where
+  pub runs-statement : {w₀ o₀ w o : List ℕ} {r : Halt} → s .inside ≡ true → RunsStatement nodes symbols regions ss f (s .block) (p .first + s .statement) w₀ o₀ r w o → RunsAt nodes symbols regions ss f p s w₀ o₀ r w o
   runs-statement e q = record {
-    runs = λ P named limit. acts (λ x h. ap (λ (i : Bool). runAct P (x .env) (g .nodes) ss p (spotBy s i)) e) (q .runs P named limit);
-    ready = q .ready;
-    tables = q .tables;
+    goes = λ P named limit. acts (λ h x m. ap (λ (i : Bool). runAct P (x .env) nodes ss p (spotBy s i)) e) (q .goes P named limit);
+    remains = q .remains;
   }
 
-  pub runs-nothing : {w o : List ℕ} {a : Counts} → s .inside ≡ false → Ready g w a → RunsAt g ss f p s w o a (record { halt = Not; at = a }) w o
+  pub runs-nothing : {w o : List ℕ} → s .inside ≡ false → ReadyIn (given nodes symbols regions) w → RunsAt nodes symbols regions ss f p s w o Not w o
   runs-nothing e r = record {
-    runs = λ P named limit. acts (λ x h. ap (λ (i : Bool). runAct P (x .env) (g .nodes) ss p (spotBy s i)) e) (done-runs (λ x. none) (λ x h. refl) r);
-    ready = r;
-    tables = refl;
+    goes = λ P named limit. acts (λ h x m. ap (λ (i : Bool). runAct P (x .env) nodes ss p (spotBy s i)) e) (done-goes (λ x. none) (λ h x m. refl));
+    remains = record { how = refl; units = refl; ready = r; tables = refl };
   }
 
 -- ---- what a unit buys
@@ -126,10 +130,10 @@ unit-parts P E nodes ss blocks p s = go (s .inside)
     go true = ap (λ (k : Option statements.Stop → Act walk.Next). statements.runStatement P E (s .block) (statementAt nodes ss (p .first + s .statement)) >>= k) (fun-ext onward-is)
     go false = refl
 
-stopped-runs : {g : Given} {m : Scene → Act (Option statements.Stop)} (f : Scene → Option statements.Stop → Act walk.Next) {w₀ o₀ w o : List ℕ} {a₀ a : Counts} (e : Ending statements.Stop)
-    → ((x : Scene) (s : statements.Stop) → f x (some s) ≡ done (walk.stops s)) → Runs g m w₀ o₀ a₀ (someEnd e) w o a → Runs g (λ x. m x >>= f x) w₀ o₀ a₀ (stopsEnd e) w o a
-stopped-runs f (ended s) h r = goes f r (acts (λ x d. h x s) (done-runs (λ x. walk.stops s) (λ x d. refl) (r .ready)))
-stopped-runs f (short y) h r = halts f y r
+stopped-goes : {g : How → Given} {m : Scene → Act (Option statements.Stop)} (f : Scene → Option statements.Stop → Act walk.Next) {w₀ o₀ w o : List ℕ} (e : Ending statements.Stop)
+    → ((x : Scene) (s : statements.Stop) → f x (some s) ≡ done (walk.stops s)) → going.Goes g m w₀ o₀ (someEnd e) w o → going.Goes g (λ x. m x >>= f x) w₀ o₀ (stopsEnd e) w o
+stopped-goes f (ended s) h r = goes f r (acts (λ _ x d. h x s) (done-goes (λ x. walk.stops s) (λ _ x d. refl)))
+stopped-goes f (short y) h r = halts f y r
 
 stopped-kept : (F : Type 0) (e : Ending statements.Stop) → Kept (someEnd e) F → Kept (stopsEnd e) F
 stopped-kept F (ended s) h = h
@@ -139,28 +143,32 @@ stopped-kept F (short (some y)) h = h
 kept-halt : (F : Type 0) {h h′ : Halt} → h ≡ h′ → Kept (haltEnd 0 h) F → Kept (haltEnd 0 h′) F
 kept-halt F e k = subst (λ (h : Halt). Kept (haltEnd 0 h) F) e k
 
-module _ {g : Given} {ss : List ℕ} {f : Facts} {p : Place} {s : Spot} {w₀ o₀ w o : List ℕ} {a₀ : Counts} {r : Stepped} (ran : RunsAt g ss f p s w₀ o₀ a₀ r w o) where
-  pub on-ready : r .halt ≡ Not → Ready g w (r .at)
-  on-ready e = kept-halt (Ready g w (r .at)) e (ran .ready)
+remains-on : {g : How → Given} {w₀ w w′ : List ℕ} → Remains g w₀ w → Remains g w w′ → Remains g w₀ w′
+remains-on p q = record { how = q .how ∙ p .how; units = q .units ∙ p .units; ready = q .ready; tables = q .tables ∙ p .tables }
 
-  pub unit-stops : {blocks : List ℕ} {stop : Stop} → r .halt ≡ With stop → UnitOf g ss blocks f p s w₀ o₀ a₀ (record { next = Stops stop; at = r .at }) w o
+module _ {nodes symbols regions ss : List ℕ} {f : Facts} {p : Place} {s : Spot} {w₀ o₀ w o : List ℕ} {r : Halt} (ran : RunsAt nodes symbols regions ss f p s w₀ o₀ r w o) where
+  left : r ≡ Not → Remains (given nodes symbols regions) w₀ w
+  left e = kept-halt (Remains (given nodes symbols regions) w₀ w) e (ran .remains)
+
+  pub on-ready : r ≡ Not → ReadyIn (given nodes symbols regions) w
+  on-ready e = left e .ready
+
+  pub unit-stops : {blocks : List ℕ} {stop : Stop} → r ≡ With stop → UnitOf nodes symbols regions ss blocks f p s w₀ o₀ (Stops stop) w o
   unit-stops {blocks} {stop} e = record {
-    runs = λ P named limit.
-        acts (λ x h. unit-parts P (x .env) (g .nodes) ss blocks p s)
-        (stopped-runs (λ x. settling (x .env) (g .nodes) ss blocks p (s .block) (aheadOf s)) (stopEnd limit stop) (λ x z. refl) (read (haltEnd limit) e (ran .runs P named limit)));
-    ready = stopped-kept (Ready g w (r .at)) (stopEnd 0 stop) (kept-halt (Ready g w (r .at)) e (ran .ready));
-    tables = stopped-kept (tables w ≡ tables w₀) (stopEnd 0 stop) (kept-halt (tables w ≡ tables w₀) e (ran .tables));
+    goes = λ P named limit.
+        acts (λ h x m. unit-parts P (x .env) nodes ss blocks p s)
+        (stopped-goes (λ x. settling (x .env) nodes ss blocks p (s .block) (aheadOf s)) (stopEnd limit stop) (λ x z. refl) (told (ap (haltEnd limit) (sym e)) (ran .goes P named limit)));
+    remains = stopped-kept (Remains (given nodes symbols regions) w₀ w) (stopEnd 0 stop) (kept-halt (Remains (given nodes symbols regions) w₀ w) e (ran .remains));
     stays = tt;
   }
 
-  pub unit-settles : {blocks : List ℕ} {n : ℕ} {w′ o′ : List ℕ} {q : Moved} → r .halt ≡ Not → n ≡ aheadOf s → Settles g ss blocks p (s .block) n w o (r .at) q w′ o′ → UnitOf g ss blocks f p s w₀ o₀ a₀ q w′ o′
+  pub unit-settles : {blocks : List ℕ} {n : ℕ} {w′ o′ : List ℕ} {q : Next} → r ≡ Not → n ≡ aheadOf s → Settles nodes symbols regions ss blocks p (s .block) n w o q w′ o′ → UnitOf nodes symbols regions ss blocks f p s w₀ o₀ q w′ o′
   unit-settles {blocks} {q = q} e is z = record {
-    runs = λ P named limit.
-        acts (λ x h. unit-parts P (x .env) (g .nodes) ss blocks p s)
-        (goes (λ x. settling (x .env) (g .nodes) ss blocks p (s .block) (aheadOf s)) (read (haltEnd limit) e (ran .runs P named limit))
-        (acts (λ x h. ap (walk.settle (x .env) (s .block) (blockOf (g .nodes) ss blocks p)) (sym is)) (z .runs limit)));
-    ready = z .runs 0 .ready;
-    tables = kept-on (nextEnd 0 (q .next)) (λ t. t ∙ kept-halt (tables w ≡ tables w₀) e (ran .tables)) (z .runs 0 .tables);
+    goes = λ P named limit.
+        acts (λ h x m. unit-parts P (x .env) nodes ss blocks p s)
+        (goes (λ x. settling (x .env) nodes ss blocks p (s .block) (aheadOf s)) (told (ap (haltEnd limit) (sym e)) (ran .goes P named limit))
+        (acts (λ h x m. ap (walk.settle (x .env) (s .block) (blockOf nodes ss blocks p)) (sym is)) (z .goes limit)));
+    remains = kept-on (nextEnd 0 q) (remains-on (left e)) (remains (z .goes 0) (on-ready e));
     stays = z .stays;
   }
 
@@ -198,13 +206,62 @@ abbrev countsWith : Counts → Tally → Counts
 countsWith a t = record { stored = a .stored; tally = t }
 
 module _ (a : Counts) {b : Bool} (some : 0 < a .tally .left) where
-  pub paid-block : b ≡ true
+  paid-block : b ≡ true
       → countsWith a (record { recorded = a .tally .recorded; asked = a .tally .asked; left = a .tally .left - 1; entered = a .tally .entered + 1; steps = a .tally .steps }) ≡ paidCounts b a
   paid-block e = sym (ap (λ (z : Bool). paidCounts z a) e ∙ ap (countsWith a) (paid-with (a .tally .left) true (a .tally) some))
 
-  pub paid-statement : b ≡ false
+  paid-statement : b ≡ false
       → countsWith a (record { recorded = a .tally .recorded; asked = a .tally .asked; left = a .tally .left - 1; entered = a .tally .entered; steps = a .tally .steps + 1 }) ≡ paidCounts b a
   paid-statement e = sym (ap (λ (z : Bool). paidCounts z a) e ∙ ap (countsWith a) (paid-with (a .tally .left) false (a .tally) some))
 
-pub paid-ready : {g : Given} {w : List ℕ} (a : Counts) {paid : Counts} (b : Bool) → paid ≡ paidCounts b a → Ready g w a → Ready g w paid
-paid-ready {g} {w} a b e r = subst (λ (c : Counts). Ready g w c) (sym e) (kept-ready refl (r .fit) r)
+-- in the registers: one unit less is left, and one more is spent
+module _ {w w₁ w₂ : List ℕ} {b : Bool} {n k : ℕ} (some : 0 < countsIn w .tally .left) (is : n ≡ wordAt (registersPart w) 3) (less : SetsWord w 3 (n - 1) w₁) where
+  pub pays-block : b ≡ true → k ≡ wordAt (registersPart w₁) 4 → SetsWord w₁ 4 (k + 1) w₂ → Pays b w w₂
+  unfolding countsIn
+  pays-block e was more = record {
+    aside = aside-aside (less .aside) (more .aside);
+    how = how-before more (omega arith) ∙ how-before less (omega arith);
+    counts = counts-by w₂ (countsWith (countsIn w) (record {
+      recorded = countsIn w .tally .recorded;
+      asked = countsIn w .tally .asked;
+      left = countsIn w .tally .left - 1;
+      entered = countsIn w .tally .entered + 1;
+      steps = countsIn w .tally .steps;
+    })) (at 0 (omega arith)) (at 1 (omega arith)) (at 2 (omega arith))
+        (more .words 3 (omega arith) (λ q. absurd (omega (arith, q))) ∙ less .here ∙ ap (λ (i : ℕ). i - 1) is)
+        (more .here ∙ ap (λ (i : ℕ). i + 1) (was ∙ less .words 4 (omega arith) (λ q. absurd (omega (arith, q)))))
+        (more .words 5 (omega arith) (λ q. absurd (omega (arith, q))) ∙ less .words 5 (omega arith) (λ q. absurd (omega (arith, q))))
+        ∙ paid-block (countsIn w) some e;
+  }
+    where
+      at : (j : ℕ) → j < 3 → wordAt (registersPart w₂) j ≡ wordAt (registersPart w) j
+      at j l = more .words j (omega arith) (λ q. absurd (omega (arith, q, l))) ∙ less .words j (omega arith) (λ q. absurd (omega (arith, q, l)))
+
+  pub pays-statement : b ≡ false → k ≡ wordAt (registersPart w₁) 5 → SetsWord w₁ 5 (k + 1) w₂ → Pays b w w₂
+  unfolding countsIn
+  pays-statement e was more = record {
+    aside = aside-aside (less .aside) (more .aside);
+    how = how-before more (omega arith) ∙ how-before less (omega arith);
+    counts = counts-by w₂ (countsWith (countsIn w) (record {
+      recorded = countsIn w .tally .recorded;
+      asked = countsIn w .tally .asked;
+      left = countsIn w .tally .left - 1;
+      entered = countsIn w .tally .entered;
+      steps = countsIn w .tally .steps + 1;
+    })) (at 0 (omega arith)) (at 1 (omega arith)) (at 2 (omega arith))
+        (more .words 3 (omega arith) (λ q. absurd (omega (arith, q))) ∙ less .here ∙ ap (λ (i : ℕ). i - 1) is)
+        (more .words 4 (omega arith) (λ q. absurd (omega (arith, q))) ∙ less .words 4 (omega arith) (λ q. absurd (omega (arith, q))))
+        (more .here ∙ ap (λ (i : ℕ). i + 1) (was ∙ less .words 5 (omega arith) (λ q. absurd (omega (arith, q)))))
+        ∙ paid-statement (countsIn w) some e;
+  }
+    where
+      at : (j : ℕ) → j < 3 → wordAt (registersPart w₂) j ≡ wordAt (registersPart w) j
+      at j l = more .words j (omega arith) (λ q. absurd (omega (arith, q, l))) ∙ less .words j (omega arith) (λ q. absurd (omega (arith, q, l)))
+
+-- the workspace is in order after it
+module _ {w w′ : List ℕ} {b : Bool} (pays : Pays b w w′) where
+  pub paid-given : {g : Given} → Ready g w (countsIn w) → Ready g w′ (countsIn w′)
+  paid-given {g} r = subst (Ready g w′) (sym (pays .counts)) (kept-ready (pays .aside .tables) (pays .aside .fit (countsIn w .stored) (r .fit)) r)
+
+  pub paid-ready : {g : How → Given} → ReadyIn g w → ReadyIn g w′
+  paid-ready {g} r = record { ready = subst (λ (h : How). Ready (g h) w′ (countsIn w′)) (sym (pays .how)) (paid-given (r .ready)) }

@@ -6,45 +6,43 @@ use mathlib.Core.Option.{Option, none, some}
 use Prim.Native.Nat.{ℕ, zero, suc, _+_, _≤_, _<_, _^_}
 use native.Mathlib.Omega.{arith}
 use lib.ListN.{getElem?}
-use Rattle.value.specs.declared.Val.{Val}
 use Rattle.layout.specs.Number.{numberAt}
 use Rattle.files.specs.Program.{Program, Block, Statement, blockAt, statementAt}
 use Rattle.definition.specs.Act.{Act, done, spend, _>>=_}
 use Rattle.definition.specs.Evaluate.{Env}
 use Rattle.definition.specs.Statements as statements
 use Rattle.definition.specs.Walk as walk
-use Rattle.definition.proofs.Every.{None, Every}
-use Rattle.definition.proofs.Evaluation.{Quiet}
-use Rattle.definition.proofs.Units.{Unpaid, OwnNext, UnitIs, unit-is}
 use Rattle.index.specs.declared.blocks.Place.{Place}
 use Rattle.index.specs.Blocks.{blockStart, blockFirst, Placed}
 use Rattle.index.proofs.BlockPlaces.{block-there, block-none, listed-at}
 use Rattle.workspace.specs.Parts.{tables, blocksPart}
 use Rattle.hosting.specs.declared.Counts.{Counts}
 use Rattle.hosting.specs.declared.Tally.{Tally}
+use Rattle.hosting.specs.declared.How.{How}
 use Rattle.hosting.specs.declared.Facts.{Facts}
 use Rattle.hosting.specs.declared.Stop.{Stop}
 use Rattle.hosting.specs.declared.Stop.the-variants.{Steps, NoBlock}
-use Rattle.hosting.specs.Scene.{Given, Scene, Ready, Meant}
+use Rattle.hosting.specs.Scene.{Given, given, Scene, Ready, Meant}
 use Rattle.hosting.specs.Held.{paidTally}
 use Rattle.hosting.specs.Ending.{Ending, ended, short}
-use Rattle.hosting.specs.Runs.{Kept, Runs}
-use Rattle.hosting.specs.Routine.{Rooted, Named, Told}
+use Rattle.hosting.specs.Runs.{Runs}
+use Rattle.hosting.specs.Routine.{Rooted, Told}
 use Rattle.hosting.specs.Walking.{stopEnd}
-use Rattle.hosting.proofs.Running.{goes, halts, acts, assoc, told, done-runs}
-use Rattle.hosting.proofs.Keeping.{kept-ready}
+use Rattle.hosting.proofs.Running.{goes, halts, acts, assoc, done-runs}
+use Rattle.operations.specs.Registers.{countsIn, Units, unitsOf, howIn}
+use Rattle.operations.specs.Going.{ReadyIn, Remains}
+use Rattle.operations.specs.Going as going
+use Rattle.operations.proofs.Going.{aside-before}
 use Rattle.statements.specs.declared.terminators.Spot.{Spot}
 use Rattle.statements.specs.declared.terminators.Next.{Next}
 use Rattle.statements.specs.declared.terminators.Next.the-variants.{Stops, Goes}
-use Rattle.statements.specs.declared.terminators.Moved.{Moved}
-use Rattle.statements.specs.Endings.{stopsEnd, placeOf, nextEnd}
+use Rattle.statements.specs.Endings.{stopsEnd, placeOf}
 use Rattle.walk.specs.Spots.{PlacedAt}
-use Rattle.walk.specs.Units.{Balanced, paidCounts, withUnits}
+use Rattle.walk.specs.Units.{Balanced, paidCounts}
 use Rattle.statements.specs.Post.{blockOf}
-use Rattle.walk.specs.Post.{Stays, unitAct, UnitOf, walkOn, TurnsTo, Turns, WalksFrom}
+use Rattle.walk.specs.Post.{Pays, unitAct, UnitOf, walkOn, TurnsTo, Turns, WalksFrom}
 use Rattle.walk.proofs.Spending.{spend-runs}
-use Rattle.definition.proofs.Walked.{quiet-follow}
-use Rattle.walk.proofs.Unpaid.{units-kept}
+use Rattle.walk.proofs.UnitLaws.{paid-given}
 
 -- ---- what a unit buys in the definition
 
@@ -151,26 +149,26 @@ paid-fits zero b t h f = absurd (omega arith)
 paid-fits (suc n) true t h f = record { fits = omega arith }
 paid-fits (suc n) false t h f = record { fits = omega arith }
 
+module _ {g : How → Given} {b : Bool} {w₀ w₁ : List ℕ} (pays : Pays b w₀ w₁) where
+  -- what goes on after a payment, from before it
+  paid-runs : {A : Type 0} {m : Scene → Act A} {o₀ : List ℕ} {e : Ending A} {w o : List ℕ} → ReadyIn g w₀ → going.Goes g m w₁ o₀ e w o → Runs (g (howIn w₀)) m w₀ o₀ (paidCounts b (countsIn w₀)) e w o (countsIn w)
+  paid-runs {A} {m} {o₀} {e} {w} {o} r q =
+      aside-before (pays .aside) (subst (λ (c : Counts). Runs (g (howIn w₀)) m w₁ o₀ c e w o (countsIn w)) (pays .counts) (q .runs (howIn w₀) (pays .how) (paid-given pays (r .ready))))
+
+  -- the units after what goes on
+  paid-units : {w : List ℕ} → Remains g w₁ w → unitsOf (paidCounts b (countsIn w₀)) ≡ unitsOf (countsIn w)
+  paid-units r = sym (r .units ∙ ap unitsOf (pays .counts))
+
 -- ---- a turn
 
-abbrev paidIn : Spot → Counts → Tally
-paidIn s a = paidTally (a .tally .left) (not (s .inside)) (a .tally)
-
-module _ (g : Given) {ss blocks part : List ℕ} (f : Facts) {s : Spot} {p : Place} (all : Rooted (g .nodes) ss blocks part (f .blocks)) (is : Placed part (s .block) p) (l : s .block < f .blocks)
-    (at : PlacedAt blocks (f .blocks) s) where
+module _ {nodes ss blocks part : List ℕ} (f : Facts) {s : Spot} {p : Place} (all : Rooted nodes ss blocks part (f .blocks)) (is : Placed part (s .block) p) (l : s .block < f .blocks) (at : PlacedAt blocks (f .blocks) s) where
   start-is : p .start ≡ blockStart blocks (s .block)
   start-is = is .is blocks (f .blocks) (all .indexed) l .start
 
-  unit-there : (P : Program) (E : Env) → Told (g .nodes) ss blocks f P → walk.unit P E (placeOf s) ≡ some (not (s .inside), unitAct P E (g .nodes) ss blocks p s)
+  unit-there : (P : Program) (E : Env) → Told nodes ss blocks f P → walk.unit P E (placeOf s) ≡ some (not (s .inside), unitAct P E nodes ss blocks p s)
   unit-there P E told =
-      unit-by P E (g .nodes) ss blocks p (s .block) (s .statement) (s .inside) (block-found all P told (s .block) is l)
+      unit-by P E nodes ss blocks p (s .block) (s .statement) (s .inside) (block-found all P told (s .block) is l)
       (λ e. omega (arith, at .here e, ap (λ (i : ℕ). numberAt blocks i 2) start-is))
-
-  unit-quiet : (P : Program) → Told (g .nodes) ss blocks f P → (w₀ : List ℕ) (x : Scene) → Meant g x (tables w₀) → Every Unpaid None OwnNext (unitAct P (x .env) (g .nodes) ss blocks p s)
-  unit-quiet P told w₀ x h =
-      let follows : (name address : ℕ) (vs : List Val) → Quiet (x .env .follow name address vs) =
-      λ name address vs. subst (λ (k : (name address : ℕ) → List Val → Act (Option Val)). Quiet (k name address vs)) (sym (h .follow)) (quiet-follow (g .how .depth) name address vs) in
-      subst UnitIs (unit-there P (x .env) told) (unit-is (x .env) follows P (placeOf s)) .own
 
   next-placed : {q : Spot} → (q .inside ≡ true → (q .block ≡ s .block) × (q .statement < numberAt blocks (p .start) 2)) → PlacedAt blocks (f .blocks) q
   next-placed {q} st = record {
@@ -178,112 +176,115 @@ module _ (g : Given) {ss blocks part : List ℕ} (f : Facts) {s : Spot} {p : Pla
     here = λ e. omega (arith, st e .1, ap (λ (i : ℕ). numberAt blocks i 2) (start-is ∙ ap (blockStart blocks) (sym (st e .0))));
   }
 
-  module _ {w₀ o₀ w o : List ℕ} {a₀ a : Counts} (bal : Balanced (a₀ .tally)) (some : 0 < a₀ .tally .left) where
-    turns-to : (n : Next)
-        → ((P : Program) → Named f P → (limit : ℕ) → Runs g (λ x. unitAct P (x .env) (g .nodes) ss blocks p s) w₀ o₀ (paidCounts (not (s .inside)) a₀) (nextEnd limit n) w o a)
-        → Kept (nextEnd 0 n) (Ready g w a) → Kept (nextEnd 0 n) (tables w ≡ tables w₀) → Stays blocks p (s .block) n → TurnsTo g ss blocks f s w₀ o₀ a₀ n w o (withUnits (paidIn s a₀) a)
-    turns-to (Stops stop) run rd same st = λ P told limit.
-        walk-stops P limit (placeOf s) (λ x. unitAct P (x .env) (g .nodes) ss blocks p s) w₀ o₀ a₀ (paidIn s a₀ .left) (paid-left (a₀ .tally .left) (not (s .inside)) (a₀ .tally) some) (λ x h. unit-there P (x .env) told)
-        (stopEnd limit stop) (units-kept w₀ (unit-quiet P told w₀) (stopsEnd (stopEnd limit stop)) (run P (told .named) limit))
-    turns-to (Goes q) run rd same st = (
-      record {
-        ready = kept-ready refl (rd .fit) rd;
-        placed = next-placed st;
-        balanced = record { fits = paid-fits (a₀ .tally .left) (not (s .inside)) (a₀ .tally) some (bal .fits) .fits };
-        less = omega (arith, paid-left (a₀ .tally .left) (not (s .inside)) (a₀ .tally) some);
-        tables = same;
-      },
-      λ P told limit e w′ o′ a′ r.
-          walk-goes P limit (placeOf s) (λ x. unitAct P (x .env) (g .nodes) ss blocks p s) w₀ o₀ a₀ (paidIn s a₀ .left) (paid-left (a₀ .tally .left) (not (s .inside)) (a₀ .tally) some) (λ x h. unit-there P (x .env) told)
-          (units-kept w₀ (unit-quiet P told w₀) (ended (walk.goes (placeOf q))) (run P (told .named) limit)) r,
-    )
+  module _ {symbols regions w₀ o₀ w₁ w o : List ℕ} (ready : ReadyIn (given nodes symbols regions) w₀) (bal : Balanced (countsIn w₀ .tally)) (some : 0 < countsIn w₀ .tally .left) (pays : Pays (not (s .inside)) w₀ w₁) where
+    turns-to : (n : Next) → UnitOf nodes symbols regions ss blocks f p s w₁ o₀ n w o → TurnsTo (given nodes symbols regions (howIn w₀)) ss blocks f s w₀ o₀ n w o
+    turns-to (Stops stop) u = λ P told limit.
+        walk-stops P limit (placeOf s) (λ x. unitAct P (x .env) nodes ss blocks p s) w₀ o₀ (countsIn w₀) (paidTally (countsIn w₀ .tally .left) (not (s .inside)) (countsIn w₀ .tally) .left)
+        (paid-left (countsIn w₀ .tally .left) (not (s .inside)) (countsIn w₀ .tally) some) (λ x h. unit-there P (x .env) told) (stopEnd limit stop) (paid-runs pays ready (u .goes P (told .named) limit))
+    turns-to (Goes q) u =
+        let units = paid-units pays (u .remains) in
+        let one : countsIn w₀ .tally .left ≡ suc (countsIn w .tally .left) = paid-left (countsIn w₀ .tally .left) (not (s .inside)) (countsIn w₀ .tally) some ∙ ap (λ (v : Units). suc (v .left)) units in
+        let how = u .remains .how ∙ pays .how in (
+          record {
+            ready = subst (λ (h : How). Ready (given nodes symbols regions h) w (countsIn w)) how (u .remains .ready .ready);
+            how = how;
+            placed = next-placed (u .stays);
+            balanced = record {
+              fits = subst (λ (v : Units). v .left + v .entered + v .steps < 2 ^ 64) units (paid-fits (countsIn w₀ .tally .left) (not (s .inside)) (countsIn w₀ .tally) some (bal .fits) .fits);
+            };
+            less = omega (arith, one);
+            tables = u .remains .tables ∙ pays .aside .tables;
+          },
+          λ P told limit e w′ o′ a′ r.
+              walk-goes P limit (placeOf s) (λ x. unitAct P (x .env) nodes ss blocks p s) w₀ o₀ (countsIn w₀) (countsIn w .tally .left) one (λ x h. unit-there P (x .env) told)
+              (paid-runs pays ready (u .goes P (told .named) limit)) r,
+        )
 
--- as the code does it
-pub turned : (g : Given) {ss blocks part : List ℕ} {f : Facts} {s : Spot} {p : Place} {w₀ o₀ w o : List ℕ} {a₀ paid a′ : Counts} {m : Moved} → Rooted (g .nodes) ss blocks part (f .blocks)
-    → Placed part (s .block) p → s .block < f .blocks → PlacedAt blocks (f .blocks) s → Balanced (a₀ .tally) → 0 < a₀ .tally .left → paid ≡ paidCounts (not (s .inside)) a₀
-    → UnitOf g ss blocks f p s w₀ o₀ paid m w o → a′ ≡ withUnits (paid .tally) (m .at) → Turns g ss blocks f s w₀ o₀ a₀ (record { next = m .next; at = a′ }) w o
-turned g {ss} {blocks} {part} {f} {s} {p} {w₀} {o₀} {w} {o} {a₀} {paid} {a′} {m} all is l at bal units e u r =
-    let v = subst (λ (c : Counts). UnitOf g ss blocks f p s w₀ o₀ c m w o) e u in
-    record {
-      turns = subst (λ (c : Counts). TurnsTo g ss blocks f s w₀ o₀ a₀ (m .next) w o c) (sym (r ∙ ap (λ (c : Counts). withUnits (c .tally) (m .at)) e))
-          (turns-to g f all is l at bal units (m .next) (v .runs) (v .ready) (v .tables) (v .stays));
-    }
+    -- as the code does it
+    pub turned : {q : Next} → UnitOf nodes symbols regions ss blocks f p s w₁ o₀ q w o → Turns (given nodes symbols regions (howIn w₀)) ss blocks f s w₀ o₀ q w o
+    turned {q} u = record { turns = turns-to q u }
 
 -- ---- the walk so far: what is left to do is the walk from here
 
-pub record Left (g : Given) (ss blocks : List ℕ) (f : Facts) (w₀ o₀ : List ℕ) (a₀ : Counts) (s : Spot) (a : Counts) (w o : List ℕ) : Type 0 where
-  pub ready : Ready g w a
-  pub rooted : Rooted (g .nodes) ss blocks (blocksPart (tables w)) (f .blocks)
+pub record Left (nodes symbols regions ss blocks : List ℕ) (f : Facts) (w₀ o₀ : List ℕ) (s : Spot) (w o : List ℕ) : Type 0 where
+  pub ready : ReadyIn (given nodes symbols regions) w
+  pub how : howIn w ≡ howIn w₀
+  pub rooted : Rooted nodes ss blocks (blocksPart (tables w)) (f .blocks)
   pub placed : PlacedAt blocks (f .blocks) s
-  pub balanced : Balanced (a .tally)
-  pub rest : (P : Program) → Told (g .nodes) ss blocks f P → (limit : ℕ) (e : Ending statements.Stop) (w′ o′ : List ℕ) (a′ : Counts)
-      → Runs g (λ x. walkOn P (x .env) limit (a .tally .left) (placeOf s)) w o a e w′ o′ a′ → Runs g (λ x. walkOn P (x .env) limit (a₀ .tally .left) (walk.before 0)) w₀ o₀ a₀ e w′ o′ a′
+  pub balanced : Balanced (countsIn w .tally)
+  pub rest : (P : Program) → Told nodes ss blocks f P → (limit : ℕ) (e : Ending statements.Stop) (w′ o′ : List ℕ) (a′ : Counts)
+      → Runs (given nodes symbols regions (howIn w₀)) (λ x. walkOn P (x .env) limit (countsIn w .tally .left) (placeOf s)) w o (countsIn w) e w′ o′ a′
+      → Runs (given nodes symbols regions (howIn w₀)) (λ x. walkOn P (x .env) limit (countsIn w₀ .tally .left) (walk.before 0)) w₀ o₀ (countsIn w₀) e w′ o′ a′
 
-pub begins : {g : Given} {ss blocks : List ℕ} {f : Facts} {w o : List ℕ} {a : Counts} {s : Spot} → s ≡ record { block = 0; statement = 0; inside = false } → Ready g w a
-    → Rooted (g .nodes) ss blocks (blocksPart (tables w)) (f .blocks) → Balanced (a .tally) → Left g ss blocks f w o a s a w o
-begins {g} {ss} {blocks} {f} {w} {o} {a} is r all b = subst (λ (s : Spot). Left g ss blocks f w o a s a w o) (sym is) (record {
+pub begins : {nodes symbols regions ss blocks : List ℕ} {f : Facts} {w o : List ℕ} {s : Spot} → s ≡ record { block = 0; statement = 0; inside = false } → ReadyIn (given nodes symbols regions) w
+    → Rooted nodes ss blocks (blocksPart (tables w)) (f .blocks) → Balanced (countsIn w .tally) → Left nodes symbols regions ss blocks f w o s w o
+begins {nodes} {symbols} {regions} {ss} {blocks} {f} {w} {o} is r all b = subst (λ (s : Spot). Left nodes symbols regions ss blocks f w o s w o) (sym is) (record {
   ready = r;
+  how = refl;
   rooted = all;
   placed = record { block = λ e. absurd (true≢false (sym e)); here = λ e. absurd (true≢false (sym e)) };
   balanced = b;
   rest = λ P told limit e w′ o′ a′ q. q;
 })
 
-module _ {g : Given} {ss blocks : List ℕ} {f : Facts} {w₀ o₀ : List ℕ} {a₀ : Counts} {s : Spot} {a : Counts} {w o : List ℕ} (so : Left g ss blocks f w₀ o₀ a₀ s a w o) where
-  module _ {r : Moved} {w′ o′ : List ℕ} (turn : Turns g ss blocks f s w o a r w′ o′) where
-    gone : {q : Spot} → r .next ≡ Goes q → TurnsTo g ss blocks f s w o a (Goes q) w′ o′ (r .at)
-    gone e = subst (λ (n : Next). TurnsTo g ss blocks f s w o a n w′ o′ (r .at)) e (turn .turns)
+module _ {nodes symbols regions ss blocks : List ℕ} {f : Facts} {w₀ o₀ : List ℕ} {s : Spot} {w o : List ℕ} (so : Left nodes symbols regions ss blocks f w₀ o₀ s w o) where
+  -- in order for the run as it began
+  ready-so : Ready (given nodes symbols regions (howIn w₀)) w (countsIn w)
+  ready-so = subst (λ (h : How). Ready (given nodes symbols regions h) w (countsIn w)) (so .how) (so .ready .ready)
 
-    pub goes-on : {q : Spot} → r .next ≡ Goes q → Left g ss blocks f w₀ o₀ a₀ q (r .at) w′ o′
+  module _ {n : Next} {w′ o′ : List ℕ} (turn : Turns (given nodes symbols regions (howIn w)) ss blocks f s w o n w′ o′) where
+    gone : {m : Next} → n ≡ m → TurnsTo (given nodes symbols regions (howIn w₀)) ss blocks f s w o m w′ o′
+    gone {m} e = subst (λ (h : How). TurnsTo (given nodes symbols regions h) ss blocks f s w o m w′ o′) (so .how) (subst (λ (m : Next). TurnsTo (given nodes symbols regions (howIn w)) ss blocks f s w o m w′ o′) e (turn .turns))
+
+    pub goes-on : {q : Spot} → n ≡ Goes q → Left nodes symbols regions ss blocks f w₀ o₀ q w′ o′
     goes-on e = record {
-      ready = gone e .0 .ready;
-      rooted = subst (λ (t : List ℕ). Rooted (g .nodes) ss blocks (blocksPart t) (f .blocks)) (sym (gone e .0 .tables)) (so .rooted);
+      ready = record { ready = subst (λ (h : How). Ready (given nodes symbols regions h) w′ (countsIn w′)) (sym (gone e .0 .how ∙ so .how)) (gone e .0 .ready) };
+      how = gone e .0 .how ∙ so .how;
+      rooted = subst (λ (t : List ℕ). Rooted nodes ss blocks (blocksPart t) (f .blocks)) (sym (gone e .0 .tables)) (so .rooted);
       placed = gone e .0 .placed;
       balanced = gone e .0 .balanced;
       rest = λ P told limit d w″ o″ a″ q. so .rest P told limit d w″ o″ a″ (gone e .1 P told limit d w″ o″ a″ q);
     }
 
-    pub goes-less : {q : Spot} → r .next ≡ Goes q → r .at .tally .left < a .tally .left
+    pub goes-less : {q : Spot} → n ≡ Goes q → countsIn w′ .tally .left < countsIn w .tally .left
     goes-less e = gone e .0 .less
 
-    pub stops-with : {stop : Stop} → r .next ≡ Stops stop → WalksFrom g ss blocks f w₀ o₀ a₀ (record { stop = stop; at = r .at }) w′ o′
-    stops-with {stop} e = record {
-      runs = λ P told limit. so .rest P told limit (stopEnd limit stop) w′ o′ (r .at) (subst (λ (n : Next). TurnsTo g ss blocks f s w o a n w′ o′ (r .at)) e (turn .turns) P told limit);
-    }
+    pub stops-with : {stop : Stop} → n ≡ Stops stop → WalksFrom (given nodes symbols regions (howIn w₀)) ss blocks f w₀ o₀ stop w′ o′
+    stops-with {stop} e = record { runs = λ P told limit. so .rest P told limit (stopEnd limit stop) w′ o′ (countsIn w′) (gone e P told limit) }
 
   -- no unit is left for a block that is there
-  pub stops-spent : s .block < f .blocks → a .tally .left ≡ 0 → WalksFrom g ss blocks f w₀ o₀ a₀ (record { stop = Steps; at = a }) w o
+  pub stops-spent : s .block < f .blocks → countsIn w .tally .left ≡ 0 → WalksFrom (given nodes symbols regions (howIn w₀)) ss blocks f w₀ o₀ Steps w o
   unfolding _>>=_
   stops-spent l z = record {
     runs = λ P told limit.
-        so .rest P told limit (ended (statements.Steps limit)) w o a
+        so .rest P told limit (ended (statements.Steps limit)) w o (countsIn w)
         (acts (λ x h. ap (λ (n : ℕ). walkOn P (x .env) limit n (placeOf s)) z ∙ ap (λ (m : Act walk.Next). m >>= finish limit) (walk-spent P (x .env) (placeOf s) (there P (x .env) told)))
-        (done-runs (λ x. statements.Steps limit) (λ x h. refl) (so .ready)));
+        (done-runs (λ x. statements.Steps limit) (λ x h. refl) ready-so));
   }
     where
       p : Place
       p = record { start = blockStart blocks (s .block); first = blockFirst blocks (s .block) }
 
-      there : (P : Program) (E : Env) → Told (g .nodes) ss blocks f P → walk.unit P E (placeOf s) ≡ some (buys P E (g .nodes) ss blocks p (s .block) (s .statement) (s .inside))
+      there : (P : Program) (E : Env) → Told nodes ss blocks f P → walk.unit P E (placeOf s) ≡ some (buys P E nodes ss blocks p (s .block) (s .statement) (s .inside))
       there P E told =
-          unit-by P E (g .nodes) ss blocks p (s .block) (s .statement) (s .inside)
+          unit-by P E nodes ss blocks p (s .block) (s .statement) (s .inside)
           (block-found-at (so .rooted) P told (s .block) l)
           (so .placed .here)
 
   -- there is no such block
-  pub stops-missing : f .blocks ≤ s .block → WalksFrom g ss blocks f w₀ o₀ a₀ (record { stop = NoBlock (s .block); at = a }) w o
+  pub stops-missing : f .blocks ≤ s .block → WalksFrom (given nodes symbols regions (howIn w₀)) ss blocks f w₀ o₀ (NoBlock (s .block)) w o
   unfolding _>>=_
   stops-missing l = record {
     runs = λ P told limit.
-        so .rest P told limit (ended (statements.NoBlock (s .block))) w o a
-        (acts (λ x h. ap (λ (pl : walk.Place). walkOn P (x .env) limit (a .tally .left) pl) (outside (s .inside) refl)
-        ∙ ap (λ (m : Act walk.Next). m >>= finish limit) (walk-missing P (x .env) (a .tally .left) (walk.before (s .block)) (missing P (x .env) told)))
-        (done-runs (λ x. statements.NoBlock (s .block)) (λ x h. refl) (so .ready)));
+        so .rest P told limit (ended (statements.NoBlock (s .block))) w o (countsIn w)
+        (acts (λ x h. ap (λ (pl : walk.Place). walkOn P (x .env) limit (countsIn w .tally .left) pl) (outside (s .inside) refl)
+        ∙ ap (λ (m : Act walk.Next). m >>= finish limit) (walk-missing P (x .env) (countsIn w .tally .left) (walk.before (s .block)) (missing P (x .env) told)))
+        (done-runs (λ x. statements.NoBlock (s .block)) (λ x h. refl) ready-so));
   }
     where
       outside : (i : Bool) → s .inside ≡ i → placeBy i (s .block) (s .statement) ≡ walk.before (s .block)
       outside false e = refl
       outside true e = absurd (omega (arith, so .placed .block e, l))
 
-      missing : (P : Program) (E : Env) → Told (g .nodes) ss blocks f P → walk.unit P E (walk.before (s .block)) ≡ none
+      missing : (P : Program) (E : Env) → Told nodes ss blocks f P → walk.unit P E (walk.before (s .block)) ≡ none
       missing P E told = no-unit P E (s .block) (block-missing (so .rooted) P told (s .block) l)

@@ -12,10 +12,3 @@ pub record Balanced (t : Tally) : Type 0 where
 -- one is spent, on a block or on a statement
 abbrev pub paidCounts : Bool → Counts → Counts
 paidCounts block a = record { stored = a .stored; tally = paidTally (a .tally .left) block (a .tally) }
-
--- the counts with the units of a tally
-abbrev pub withUnits : Tally → Counts → Counts
-withUnits t a = record {
-  stored = a .stored;
-  tally = record { recorded = a .tally .recorded; asked = a .tally .asked; left = t .left; entered = t .entered; steps = t .steps };
-}

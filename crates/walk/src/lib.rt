@@ -8,23 +8,24 @@ ghost use Rattle.workspace.specs.Parts.{workspaceSize, tables, blocksPart};
 ghost use Rattle.hosting.specs.Scene.{given, Ready};
 ghost use Rattle.hosting.specs.Routine.{Rooted};
 ghost use Rattle.hosting.specs.Walking.{WalksAll};
+ghost use Rattle.operations.specs.Registers.{countsIn, howIn};
+ghost use Rattle.operations.specs.Going.{ReadyIn};
 ghost use Rattle.statements.specs.Sorts.{RootsOf};
 ghost use Rattle.statements.specs.Placing.{Placing};
 ghost use Rattle.walk.specs.Spots.{PlacedAt, Here};
-ghost use Rattle.walk.specs.Units.{Balanced, paidCounts, withUnits};
-ghost use Rattle.walk.specs.Post.{Settles, RunsAt, aheadOf, UnitOf, Turns, WalksFrom};
+ghost use Rattle.walk.specs.Units.{Balanced};
+ghost use Rattle.walk.specs.Post.{Pays, Settles, RunsAt, aheadOf, UnitOf, Turns, WalksFrom};
 use hosting::Counts;
 use hosting::Facts;
 use hosting::How;
 use hosting::Stop;
-use hosting::Tally;
 use hosting::Walked;
 use index::blocks::Place;
+use operations::results;
 use statements::statements::Halt;
-use statements::statements::Stepped;
-use statements::terminators::Moved;
 use statements::terminators::Next;
 use statements::terminators::Spot;
+use workspace::registers;
 
 // Before a statement of the block at a place: it is there, or the terminator comes, at no cost.
 fn settle(
@@ -35,38 +36,22 @@ fn settle(
     regions: &[u8],
     ws: &mut [u8],
     out: &mut [u8],
-    how: How,
     place: Place,
     block: usize,
     k: usize,
-    at: Counts,
-) -> Moved
-    requires { ⌜ Ready (given (now nodes) (now symbols) (now regions) how) (now ws) at ⌝ }
+) -> Next
+    requires { ⌜ ReadyIn (given (now nodes) (now symbols) (now regions)) (now ws) ⌝ }
     requires { ⌜ Placing (now nodes) (now statements) (now blocks) place ⌝ }
-    ensures { λ r. ⌜ Settles (given (now (nodes .entry)) (now (symbols .entry)) (now (regions .entry)) how) (now (statements .entry)) (now (blocks .entry)) place block k (now (ws .entry)) (now (out .entry)) at r (now (ws .exit)) (now (out .exit)) ⌝ }
+    ensures { λ r. ⌜ Settles (now (nodes .entry)) (now (symbols .entry)) (now (regions .entry)) (now (statements .entry)) (now (blocks .entry)) place block k (now (ws .entry)) (now (out .entry)) r (now (ws .exit)) (now (out .exit)) ⌝ }
 {
     if k < index::blocks::statement_count(blocks, place.start) {
-        return Moved {
-            next: Next::Goes(Spot {
-                block,
-                statement: k,
-                inside: true,
-            }),
-            at,
-        };
+        return Next::Goes(Spot {
+            block,
+            statement: k,
+            inside: true,
+        });
     }
-    statements::terminators::terminate(
-        nodes,
-        statements,
-        blocks,
-        symbols,
-        regions,
-        ws,
-        out,
-        how,
-        place,
-        at,
-    )
+    statements::terminators::terminate(nodes, statements, blocks, symbols, regions, ws, out, place)
 }
 
 // What a unit runs at a spot before the walk settles: the statement there, or nothing where a block is entered.
@@ -77,15 +62,13 @@ fn run_at(
     regions: &[u8],
     ws: &mut [u8],
     out: &mut [u8],
-    how: How,
     facts: Facts,
     place: Place,
     spot: Spot,
-    at: Counts,
-) -> Stepped
-    requires { ⌜ Ready (given (now nodes) (now symbols) (now regions) how) (now ws) at ⌝ }
+) -> Halt
+    requires { ⌜ ReadyIn (given (now nodes) (now symbols) (now regions)) (now ws) ⌝ }
     requires { ⌜ (RootsOf (now nodes) (now statements)) × ((spot .inside ≡ true) → (place .first + spot .statement) * 13 + 13 ≤ length (now statements)) ⌝ }
-    ensures { λ r. ⌜ RunsAt (given (now (nodes .entry)) (now (symbols .entry)) (now (regions .entry)) how) (now (statements .entry)) facts place spot (now (ws .entry)) (now (out .entry)) at r (now (ws .exit)) (now (out .exit)) ⌝ }
+    ensures { λ r. ⌜ RunsAt (now (nodes .entry)) (now (symbols .entry)) (now (regions .entry)) (now (statements .entry)) facts place spot (now (ws .entry)) (now (out .entry)) r (now (ws .exit)) (now (out .exit)) ⌝ }
 {
     if spot.inside {
         return statements::statements::statement(
@@ -95,17 +78,12 @@ fn run_at(
             regions,
             ws,
             out,
-            how,
             facts,
             spot.block,
             place.first + spot.statement,
-            at,
         );
     }
-    Stepped {
-        halt: Halt::Not,
-        at,
-    }
+    Halt::Not
 }
 
 // The statement ahead of a spot: the one after it, or the first of a block that is entered.
@@ -120,7 +98,7 @@ fn ahead(spot: Spot) -> usize
 }
 
 // What one unit buys: the block at a place is entered, or a statement of it run.
-// Both come to the only call of `settle`: with two the compiler makes a function of it, and each unit pays for a call with twelve arguments.
+// Both come to the only call of `settle`: with two the compiler makes a function of it, and each unit pays for a call with ten arguments.
 fn unit(
     nodes: &[u8],
     statements: &[u8],
@@ -129,36 +107,27 @@ fn unit(
     regions: &[u8],
     ws: &mut [u8],
     out: &mut [u8],
-    how: How,
     facts: Facts,
     place: Place,
     spot: Spot,
-    at: Counts,
-) -> Moved
-    requires { ⌜ Ready (given (now nodes) (now symbols) (now regions) how) (now ws) at ⌝ }
+) -> Next
+    requires { ⌜ ReadyIn (given (now nodes) (now symbols) (now regions)) (now ws) ⌝ }
     requires { ⌜ (Placing (now nodes) (now statements) (now blocks) place) × ((spot .inside ≡ true) → Here (now blocks) place (spot .statement)) ⌝ }
-    ensures { λ r. ⌜ UnitOf (given (now (nodes .entry)) (now (symbols .entry)) (now (regions .entry)) how) (now (statements .entry)) (now (blocks .entry)) facts place spot (now (ws .entry)) (now (out .entry)) at r (now (ws .exit)) (now (out .exit)) ⌝ }
+    ensures { λ r. ⌜ UnitOf (now (nodes .entry)) (now (symbols .entry)) (now (regions .entry)) (now (statements .entry)) (now (blocks .entry)) facts place spot (now (ws .entry)) (now (out .entry)) r (now (ws .exit)) (now (out .exit)) ⌝ }
 {
-    let s = run_at(
+    let halt = run_at(
         nodes,
         statements,
         symbols,
         regions,
         ws,
         out,
-        how,
         facts,
         place,
         spot,
-        at,
     );
-    let halt = s.halt;
-    let after = s.at;
     match halt {
-        Halt::With(stop) => Moved {
-            next: Next::Stops(stop),
-            at: after,
-        },
+        Halt::With(stop) => Next::Stops(stop),
         Halt::Not => settle(
             nodes,
             statements,
@@ -167,60 +136,36 @@ fn unit(
             regions,
             ws,
             out,
-            how,
             place,
             spot.block,
             ahead(spot),
-            after,
         ),
     }
 }
 
-// A unit is spent, on a block or on a statement.
-fn pay(at: Counts, block: bool) -> Counts
-    requires { ⌜ (Balanced (at .tally)) × (0 < at .tally .left) ⌝ }
-    ensures { λ r. ⌜ r ≡ paidCounts block at ⌝ }
+// The units that are left.
+fn left(ws: &[u8]) -> u64
+    requires { ⌜ workspaceSize ≤ length (now ws) ⌝ }
+    ensures { λ r. ⌜ r ≡ countsIn (now (ws .entry)) .tally .left ⌝ }
 {
-    let t = at.tally;
-    if block {
-        return Counts {
-            stored: at.stored,
-            tally: Tally {
-                recorded: t.recorded,
-                asked: t.asked,
-                left: t.left - 1,
-                entered: t.entered + 1,
-                steps: t.steps,
-            },
-        };
-    }
-    Counts {
-        stored: at.stored,
-        tally: Tally {
-            recorded: t.recorded,
-            asked: t.asked,
-            left: t.left - 1,
-            entered: t.entered,
-            steps: t.steps + 1,
-        },
-    }
+    registers::word(ws, results::LEFT)
 }
 
-// The units of a tally: what is run between two payments leaves them as they are.
-fn resumed(at: Counts, units: Tally) -> Counts
-    ensures { λ r. ⌜ r ≡ withUnits units at ⌝ }
+// A unit is spent, on a block or on a statement.
+fn pay(ws: &mut [u8], block: bool)
+    requires { ⌜ workspaceSize ≤ length (now ws) ⌝ }
+    requires { ⌜ (Balanced (countsIn (now ws) .tally)) × (0 < countsIn (now ws) .tally .left) ⌝ }
+    ensures { λ _. ⌜ Pays block (now (ws .entry)) (now (ws .exit)) ⌝ }
 {
-    let t = at.tally;
-    Counts {
-        stored: at.stored,
-        tally: Tally {
-            recorded: t.recorded,
-            asked: t.asked,
-            left: units.left,
-            entered: units.entered,
-            steps: units.steps,
-        },
+    let rest = registers::word(ws, results::LEFT) - 1;
+    registers::set_word(ws, results::LEFT, rest);
+    if block {
+        let entered = registers::word(ws, results::ENTERED) + 1;
+        registers::set_word(ws, results::ENTERED, entered);
+        return;
     }
+    let steps = registers::word(ws, results::STEPS) + 1;
+    registers::set_word(ws, results::STEPS, steps);
 }
 
 // The place of a block, by the index in the workspace.
@@ -241,20 +186,18 @@ fn turn(
     regions: &[u8],
     ws: &mut [u8],
     out: &mut [u8],
-    how: How,
     facts: Facts,
     spot: Spot,
-    at: Counts,
-) -> Moved
-    requires { ⌜ Ready (given (now nodes) (now symbols) (now regions) how) (now ws) at ⌝ }
+) -> Next
+    requires { ⌜ ReadyIn (given (now nodes) (now symbols) (now regions)) (now ws) ⌝ }
     requires { ⌜ Rooted (now nodes) (now statements) (now blocks) (blocksPart (tables (now ws))) (facts .blocks) ⌝ }
     requires { ⌜ (PlacedAt (now blocks) (facts .blocks) spot) × (spot .block < facts .blocks) ⌝ }
-    requires { ⌜ (Balanced (at .tally)) × (0 < at .tally .left) ⌝ }
-    ensures { λ r. ⌜ Turns (given (now (nodes .entry)) (now (symbols .entry)) (now (regions .entry)) how) (now (statements .entry)) (now (blocks .entry)) facts spot (now (ws .entry)) (now (out .entry)) at r (now (ws .exit)) (now (out .exit)) ⌝ }
+    requires { ⌜ (Balanced (countsIn (now ws) .tally)) × (0 < countsIn (now ws) .tally .left) ⌝ }
+    ensures { λ r. ⌜ Turns (given (now (nodes .entry)) (now (symbols .entry)) (now (regions .entry)) (howIn (now (ws .entry)))) (now (statements .entry)) (now (blocks .entry)) facts spot (now (ws .entry)) (now (out .entry)) r (now (ws .exit)) (now (out .exit)) ⌝ }
 {
     let place = place_of(ws, spot.block);
-    let paid = pay(at, !spot.inside);
-    let m = unit(
+    pay(ws, !spot.inside);
+    unit(
         nodes,
         statements,
         blocks,
@@ -262,19 +205,10 @@ fn turn(
         regions,
         ws,
         out,
-        how,
         facts,
         place,
         spot,
-        paid,
-    );
-    let next = m.next;
-    let after = m.at;
-    let units = paid.tally;
-    Moved {
-        next,
-        at: resumed(after, units),
-    }
+    )
 }
 
 // Before block 0, where the walk starts.
@@ -297,26 +231,19 @@ fn rounds(
     regions: &[u8],
     ws: &mut [u8],
     out: &mut [u8],
-    how: How,
     facts: Facts,
-    start: Counts,
-) -> Walked
-    requires { ⌜ Ready (given (now nodes) (now symbols) (now regions) how) (now ws) start ⌝ }
+) -> Stop
+    requires { ⌜ ReadyIn (given (now nodes) (now symbols) (now regions)) (now ws) ⌝ }
     requires { ⌜ Rooted (now nodes) (now statements) (now blocks) (blocksPart (tables (now ws))) (facts .blocks) ⌝ }
-    requires { ⌜ Balanced (start .tally) ⌝ }
-    ensures { λ r. ⌜ WalksFrom (given (now (nodes .entry)) (now (symbols .entry)) (now (regions .entry)) how) (now (statements .entry)) (now (blocks .entry)) facts (now (ws .entry)) (now (out .entry)) start r (now (ws .exit)) (now (out .exit)) ⌝ }
+    requires { ⌜ Balanced (countsIn (now ws) .tally) ⌝ }
+    ensures { λ r. ⌜ WalksFrom (given (now (nodes .entry)) (now (symbols .entry)) (now (regions .entry)) (howIn (now (ws .entry)))) (now (statements .entry)) (now (blocks .entry)) facts (now (ws .entry)) (now (out .entry)) r (now (ws .exit)) (now (out .exit)) ⌝ }
 {
-    let mut at = start;
     let mut spot = entry();
     while spot.block < facts.blocks {
-        let t = at.tally;
-        if t.left == 0 {
-            return Walked {
-                stop: Stop::Steps,
-                at,
-            };
+        if left(ws) == 0 {
+            return Stop::Steps;
         }
-        let m = turn(
+        let next = turn(
             nodes,
             statements,
             blocks,
@@ -324,30 +251,22 @@ fn rounds(
             regions,
             ws,
             out,
-            how,
             facts,
             spot,
-            at,
         );
-        let next = m.next;
-        let after = m.at;
         match next {
             Next::Stops(stop) => {
-                return Walked { stop, at: after };
+                return stop;
             }
             Next::Goes(s) => {
                 spot = s;
-                at = after;
             }
         }
     }
-    Walked {
-        stop: Stop::NoBlock(spot.block as u64),
-        at,
-    }
+    Stop::NoBlock(spot.block as u64)
 }
 
-// The routine is walked, if it has a block.
+// The routine is walked, if it has a block. The counts are in the registers until the walk ends.
 pub fn walk(
     nodes: &[u8],
     statements: &[u8],
@@ -371,16 +290,10 @@ pub fn walk(
             at,
         };
     }
-    rounds(
-        nodes,
-        statements,
-        blocks,
-        symbols,
-        regions,
-        ws,
-        out,
-        how,
-        facts,
-        at,
-    )
+    results::enter(ws, how, at);
+    let stop = rounds(nodes, statements, blocks, symbols, regions, ws, out, facts);
+    Walked {
+        stop,
+        at: results::counts(ws),
+    }
 }

@@ -1,7 +1,7 @@
 use borrow.Author.Needs.{needs}
 use Rattle.hosting.proofs.Shapes.{room, same-kind}
 use Rattle.machine.proofs.Room.{room-after}
-use Rattle.machine.proofs.Entering.{enters-ready, enters-executes, enters-other}
+use Rattle.machine.proofs.Noting.{gives-executes, gives-other}
 use Rattle.machine.proofs.execute.Statement.{statement}
 use Rattle.machine.proofs.execute.Tie as tie
 
@@ -9,30 +9,22 @@ pub execute-spec : {M : Type 1} → statement M
 execute-spec =
     tie.close
     (tie.spec
-    (λ c κs. search needs)  -- enter-requires
     (λ c κs. search (needs, room))  -- kind-requires
     (λ c κs.  -- execute-assign-requires
     let i = c .before .before in
-    (search (needs, enters-ready), (search needs, same-kind (i .before .kind .ensures) (i .if1 .taken))))
-    (λ c κs. search (needs, room-after, enters-ready))  -- executed-requires
+    (search needs, (search needs, same-kind (i .before .kind .ensures) (i .if1 .taken))))
+    (λ c κs. search (needs, room-after))  -- executed-requires
     (λ c. search needs)  -- same-length
     (λ c. search needs)  -- same-length-2
     (λ c.  -- returns
     let e = c .before .before .before .before .before .before in
-    let k = e .before .before .before .before in
-    let e′ = k .before .before .before in
-    let s = e′ .before .before .before .before .before .before in
-    let s′ = s .before in
-    enters-executes (e′ .enter .ensures) (s′ .pre .0) (e .execute-assign .ensures) (c .executed .ensures))
-    (λ c κs. search (needs, enters-ready))  -- evaluate-requires
-    (λ c κs. search (needs, room-after, enters-ready))  -- noted-requires
+    gives-executes (e .execute-assign .ensures) (c .executed .ensures))
+    (λ c κs. search needs)  -- evaluate-requires
+    (λ c κs. search (needs, room-after))  -- noted-requires
     (λ c. search needs)  -- same-length-3
     (λ c. search needs)  -- same-length-4
     (λ c.  -- returns-2
     let e = c .before .before .before .before .before .before in
     let i = e .before .before .before in
     let k = i .before in
-    let e′ = k .before .before .before in
-    let s = e′ .before .before .before .before .before .before in
-    let s′ = s .before in
-    enters-other (e′ .enter .ensures) (s′ .pre .0) (k .kind .ensures) (i .if1 .left) (e .evaluate .ensures .0) (c .noted .ensures)))
+    gives-other (k .kind .ensures) (i .if1 .left) (e .evaluate .ensures .0) (c .noted .ensures)))

@@ -1,4 +1,3 @@
-use mathlib.Core.Bool.{not}
 use Rattle.walk.proofs.WalkLaws.{turned}
 use Rattle.walk.proofs.UnitLaws.{placing, here-at, paid-ready}
 use Rattle.walk.proofs.IndexLaws.{index-room}
@@ -14,15 +13,12 @@ pay-requires c κs = search needs
 
 unit-requires : tie.Need-unit-requires
 unit-requires c κs =
-    let at-pay = c .before .before in
-    let at-place-of = at-pay .before .before in
+    let at-pay = c .before .before .before .before in
+    let at-place-of = at-pay .before .before .before in
     let to-start = at-place-of .before .before .before .before .before .before in
     let start = to-start .before .before .before in
     let place = at-place-of .place-of .ensures in
-    (paid-ready (start .args .at) (not (start .args .spot .inside)) (at-pay .pay .ensures) (start .pre .0), (placing (start .pre .1 .0) place (start .pre .1 .1 .0 .1), here-at (start .pre .1 .0) place (start .pre .1 .1 .0 .1) (start .pre .1 .1 .0 .0)))
-
-resumed-requires : tie.Need-resumed-requires
-resumed-requires c κs = search needs
+    (paid-ready (at-pay .pay .ensures) (start .pre .0), (placing (start .pre .1 .0) place (start .pre .1 .1 .0 .1), here-at (start .pre .1 .0) place (start .pre .1 .1 .0 .1) (start .pre .1 .1 .0 .0)))
 
 same-length : tie.Need-same-length
 same-length c = search needs
@@ -32,22 +28,14 @@ same-length-2 c = search needs
 
 returns : tie.Need-returns
 returns c =
-    let to-unit = c .before .before .before .before .before .before in
-    let at-unit = to-unit .before in
-    let at-pay = at-unit .before .before .before in
-    let at-place-of = at-pay .before .before in
+    let at-unit = c .before .before .before .before in
+    let at-pay = at-unit .before .before .before .before .before in
+    let at-place-of = at-pay .before .before .before in
     let to-start = at-place-of .before .before .before .before .before .before in
     let start = to-start .before .before .before in
-    turned _ (start .pre .1 .0) (at-place-of .place-of .ensures) (start .pre .1 .1 .0 .1) (start .pre .1 .1 .0 .0) (start .pre .1 .1 .1 .0) (start .pre .1 .1 .1 .1) (at-pay .pay .ensures) (at-unit .unit .ensures) (c .resumed .ensures)
+    turned _ (start .pre .1 .0) (at-place-of .place-of .ensures) (start .pre .1 .1 .0 .1) (start .pre .1 .1 .0 .0) (start .pre .0) (start .pre .1 .1 .1 .0) (start .pre .1 .1 .1 .1) (at-pay .pay .ensures) (at-unit .unit .ensures)
 
 pub turn-spec : {M : Type 1} → statement M
 turn-spec =
     tie.close
-    (tie.spec
-    place-of-requires
-    pay-requires
-    unit-requires
-    resumed-requires
-    same-length
-    same-length-2
-    returns)
+    (tie.spec place-of-requires pay-requires unit-requires same-length same-length-2 returns)

@@ -18,7 +18,7 @@ enum-told c = search needs
 ahead-requires : tie.Need-ahead-requires
 ahead-requires c κs =
     let to-run-at = c .before .before .before .before .before .before in
-    let at-run-at = to-run-at .before .before .before in
+    let at-run-at = to-run-at .before .before in
     let to-start = at-run-at .before .before .before .before .before .before in
     let start = to-start .before .before .before .before in
     λ e. statement-small (start .pre .1 .1 e)
@@ -26,8 +26,7 @@ ahead-requires c κs =
 settle-requires : tie.Need-settle-requires
 settle-requires c κs =
     let at-enum-told = c .before .before .before in
-    let to-run-at = at-enum-told .before .before .before .before .before .before in
-    let at-run-at = to-run-at .before in
+    let at-run-at = at-enum-told .before .before .before .before .before .before in
     let to-start = at-run-at .before .before .before .before .before .before in
     let start = to-start .before .before .before .before in
     (on-ready (at-run-at .run-at .ensures) (at-enum-told .enum-told .given .1), start .pre .1 .0)

@@ -1,34 +1,21 @@
 use borrow.Author.Needs.{needs}
-use Rattle.operations.proofs.Naming.{name-below, declared-writes, undeclared-writes}
+use Rattle.operations.proofs.Naming.{declared-written, undeclared-fit, undeclared-symbols, symbol-writes}
 use Rattle.operations.proofs.names.write.Statement.{statement}
 use Rattle.operations.proofs.names.write.Tie as tie
-
-declared-requires : tie.Need-declared-requires
-declared-requires c κs = search (needs, name-below)
-
-set-variable-requires : tie.Need-set-variable-requires
-set-variable-requires c κs = search (needs, name-below)
-
-returns : tie.Need-returns
-returns c = search (needs, declared-writes)
-
-returns-2 : tie.Need-returns-2
-returns-2 c = search (needs, undeclared-writes)
 
 pub write-spec : {M : Type 1} → statement M
 write-spec =
     tie.close
     (tie.spec
     (λ c κs. search needs)
-    declared-requires
     (λ c. search needs)
-    (λ c κs. search needs)
-    set-variable-requires
-    (λ c κs. search needs)
+    (λ c. search (needs, declared-written))
+    (λ c κs.
+    let i = c .before .before in
+    let d = i .before .before .before in
+    let s = d .before .before .before .before .before .before in
+    let e = d .write-declared .ensures in
+    (undeclared-fit e (i .if1 .left) (s .pre .0), (undeclared-symbols e (i .if1 .left) (s .pre .1 .0), s .pre .1 .1)))
     (λ c. search needs)
-    (λ c κs. search needs)
     (λ c. search needs)
-    returns
-    (λ c. search needs)
-    (λ c. search needs)
-    returns-2)
+    (λ c. search (needs, symbol-writes)))

@@ -10,4 +10,4 @@ returns-2 : tie.Need-returns-2
 returns-2 c = search (needs, told-short)
 
 pub executed-spec : {M : Type 1} → statement M
-executed-spec = tie.close (tie.spec (λ c κs. search needs) (λ c κs. search needs) returns (λ c κs. search needs) returns-2)
+executed-spec = tie.close (tie.spec (λ c κs. search needs) returns (λ c κs. search needs) returns-2)

@@ -63,7 +63,7 @@ returns-4 c =
     let at-enum-told4 = at-execute .before .before .before in
     let at-sort-of = at-enum-told4 .before .before in
     let start = at-sort-of .before .before .before .before .before .before in
-    acting-plain (start .pre .1) (at-sort-of .sort-of .ensures) (at-enum-told4 .enum-told4 .given .1) (at-execute .execute .ensures) (c .done .ensures)
+    acting-plain (start .pre .0) (start .pre .1) (at-sort-of .sort-of .ensures) (at-enum-told4 .enum-told4 .given .1) (at-execute .execute .ensures) (c .done .ensures)
 
 pub act-spec : {M : Type 1} → statement M
 act-spec =

@@ -18,13 +18,16 @@ did-of-requires c κs = search needs
 
 recorded-requires : tie.Need-recorded-requires
 recorded-requires c κs =
-    let at-if1 = c .before .before in
+    let at-if1 = c .before .before .before in
     let at-is-full = at-if1 .before in
-    let start = at-is-full .before .before .before .before .before in
-    kept-fit _ _ (start .args .a .outcome) (sym (at-is-full .is-full .ensures) ∙ at-if1 .if1 .left) (start .pre)
+    let start = at-is-full .before .before .before .before in
+    kept-fit _ _ (start .args .o) (sym (at-is-full .is-full .ensures) ∙ at-if1 .if1 .left) (start .pre)
 
 same-length : tie.Need-same-length
 same-length c = search needs
+
+same-length-2 : tie.Need-same-length-2
+same-length-2 c = search needs
 
 returns-2 : tie.Need-returns-2
 returns-2 c = search (needs, conclude-sent)
@@ -39,4 +42,5 @@ conclude-spec =
     did-of-requires
     recorded-requires
     same-length
+    same-length-2
     returns-2)

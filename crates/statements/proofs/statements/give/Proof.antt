@@ -34,7 +34,7 @@ returns-2 c =
     let at-if1 = at-eval .before .before .before in
     let at-span = at-if1 .before in
     let start = at-span .before .before .before .before .before .before in
-    acting-gives (start .pre .1 .1) (start .pre .1 .0) (at-span .span .ensures) (at-if1 .if1 .left) (at-eval .eval .ensures) (c .gave .ensures)
+    acting-gives (start .pre .0) (start .pre .1 .1) (start .pre .1 .0) (at-span .span .ensures) (at-if1 .if1 .left) (at-eval .eval .ensures) (c .gave .ensures)
 
 pub give-spec : {M : Type 1} → statement M
 give-spec =

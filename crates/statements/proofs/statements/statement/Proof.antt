@@ -1,4 +1,5 @@
-use Rattle.statements.proofs.StatementLaws.{kept-acts, root-fine, cleared-ready, statement-runs}
+use Rattle.statements.proofs.Running.{cleared-ready}
+use Rattle.statements.proofs.StatementLaws.{kept-acts, root-fine, statement-runs}
 use Rattle.index.specs.Answers.{optionOf}
 use mathlib.Core.Option.{none}
 use borrow.Author.Needs.{needs}
@@ -18,7 +19,7 @@ conclude-requires : tie.Need-conclude-requires
 conclude-requires c κs =
     let at-act = c .before .before .before .before .before .before in
     let at-statement-at = at-act .before .before .before in
-    kept-acts none (optionOf (at-statement-at .statement-at .result .address)) (at-act .act .result .outcome) (λ r. r .fit) (at-act .act .ensures .ready)
+    kept-acts none (optionOf (at-statement-at .statement-at .result .address)) (at-act .act .result) (λ r. r .ready .ready .fit) (at-act .act .ensures .remains)
 
 same-length : tie.Need-same-length
 same-length c = search needs
@@ -28,7 +29,7 @@ same-length-2 c = search needs
 
 returns : tie.Need-returns
 returns c =
-    let at-conclude = c .before .before in
+    let at-conclude = c .before .before .before .before in
     let to-act = at-conclude .before .before .before .before .before .before in
     let at-act = to-act .before in
     let at-statement-at = at-act .before .before .before in

@@ -1,4 +1,4 @@
-use Rattle.statements.proofs.StepLaws.{taken-noted, pending-below, sent-own, sent-left, names-fit, names-none}
+use Rattle.statements.proofs.StepLaws.{sent-on, taken-noted, pending-below, sent-own, sent-left, names-fit, names-none}
 use Rattle.workspace.specs.Note.{pendingIn}
 use Rattle.workspace.specs.Parts.{notePart}
 use denote.Ref.{now}
@@ -6,6 +6,9 @@ use mathlib.Core.Path.{sym, _∙_}
 use borrow.Author.Needs.{needs}
 use Rattle.statements.proofs.steps.send.Statement.{statement}
 use Rattle.statements.proofs.steps.send.Tie as tie
+
+word-requires : tie.Need-word-requires
+word-requires c κs = search needs
 
 takes-requires : tie.Need-takes-requires
 takes-requires c κs = search needs
@@ -33,7 +36,18 @@ same-length : tie.Need-same-length
 same-length c = search needs
 
 returns : tie.Need-returns
-returns c = search (needs, sent-left, pending-below)
+returns c =
+    let at-step = c .before .before in
+    let at-names = at-step .before in
+    let at-piece = at-names .before .before in
+    let at-left-note = at-piece .before in
+    let at-name-count = at-left-note .before in
+    let at-if1 = at-name-count .before in
+    let at-takes = at-if1 .before in
+    let at-word = at-takes .before in
+    let start = at-word .before .before .before in
+    sent-on (now (start .args .ws)) (at-word .word .ensures)
+    (sent-left _ (start .args .site) (start .args .did) _ (pendingIn (notePart (now (start .args .ws)))) (at-takes .takes .ensures) (at-piece .piece .ensures) (at-left-note .left-note .ensures) (at-name-count .name-count .ensures) (at-names .names .ensures) (start .pre .1) (at-if1 .if1 .taken) (pending-below (notePart (now (start .args .ws)))) (at-step .step .ensures))
 
 own-note-requires : tie.Need-own-note-requires
 own-note-requires c κs = search needs
@@ -48,12 +62,16 @@ same-length-2 : tie.Need-same-length-2
 same-length-2 c = search needs
 
 returns-2 : tie.Need-returns-2
-returns-2 c = search (needs, sent-own)
+returns-2 c =
+    let at-word = c .before .before .before .before .before .before .before .before in
+    let start = at-word .before .before .before in
+    sent-on (now (start .args .ws)) (at-word .word .ensures) (search (needs, sent-own))
 
 pub send-spec : {M : Type 1} → statement M
 send-spec =
     tie.close
     (tie.spec
+    word-requires
     takes-requires
     name-count-requires
     left-note-requires
