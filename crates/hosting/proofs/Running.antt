@@ -128,11 +128,6 @@ acts {A} {g} {m} {n} {w₀} {o₀} {a₀} {e} {w} {o} {a} p r = record {
 
 -- ---- by what the code tells
 
--- an ending read off a result, where the result is known
-pub read : {A B : Type 0} {g : Given} {m : Scene → Act A} {w₀ o₀ : List ℕ} {a₀ : Counts} {w o : List ℕ} {a : Counts} (f : B → Ending A) {p q : B} → p ≡ q
-    → Runs g m w₀ o₀ a₀ (f p) w o a → Runs g m w₀ o₀ a₀ (f q) w o a
-read {B = B} {g = g} {m = m} {w₀ = w₀} {o₀ = o₀} {a₀ = a₀} {w = w} {o = o} {a = a} f e r = subst (λ (z : B). Runs g m w₀ o₀ a₀ (f z) w o a) e r
-
 -- the same run, told by an equal ending and equal counts
 pub told : {A : Type 0} {g : Given} {m : Scene → Act A} {w₀ o₀ : List ℕ} {a₀ : Counts} {e e′ : Ending A} {w o : List ℕ} {a a′ : Counts} → e′ ≡ e → a′ ≡ a → Runs g m w₀ o₀ a₀ e w o a → Runs g m w₀ o₀ a₀ e′ w o a′
 told {A} {g} {m} {w₀} {o₀} {a₀} {e} {e′} {w} {o} {a} {a′} p q r =

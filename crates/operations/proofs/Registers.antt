@@ -13,7 +13,7 @@ use Rattle.hosting.specs.declared.Counts.{Counts}
 use Rattle.hosting.specs.declared.How.{How}
 use Rattle.hosting.specs.declared.Short.{Short}
 use Rattle.hosting.specs.Held.{withAsked, withRecorded, withStored}
-use Rattle.operations.specs.Registers.{countsIn, Units, unitsOf, howIn, shortIn, resultIn, toldIn, didBy}
+use Rattle.operations.specs.Registers.{countsIn, unitsOf, howIn, shortIn, resultIn, toldIn, didBy}
 use Rattle.operations.specs.Going.{Beside}
 
 -- ---- where the part is the same

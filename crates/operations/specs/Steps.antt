@@ -28,9 +28,8 @@ use Rattle.hosting.specs.declared.Short.{Short}
 use Rattle.operations.specs.declared.places.Target.{Target}
 use Rattle.hosting.specs.Scene.{Given}
 use Rattle.hosting.specs.Stands.{Stands, FieldsAt}
-use Rattle.hosting.specs.declared.Note as host
-use Rattle.hosting.specs.Ending.{Ending, ended, endOf, doneOf, noteOf, answerEnd}
-use Rattle.operations.specs.Registers.{countsIn, howIn, shortIn, resultIn, toldIn, endBy, endIn, toldEnd}
+use Rattle.hosting.specs.Ending.{Ending, ended, answerEnd}
+use Rattle.operations.specs.Registers.{countsIn, howIn, shortIn, resultIn, toldIn, endBy, endIn}
 use Rattle.operations.specs.Going.{Goes, Beside}
 
 -- ---- what is put in the registers

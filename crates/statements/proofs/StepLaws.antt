@@ -28,7 +28,7 @@ use Rattle.workspace.specs.Post.{SetsWord}
 use Rattle.stream.specs.declared.NotePiece.{NotePiece}
 use Rattle.stream.specs.declared.StepPiece.{StepPiece}
 use Rattle.stream.specs.Stream.{Sent}
-use Rattle.stream.specs.Pieces.{takenCount, takenNames, stepBytes, noteFrom, stepFrom}
+use Rattle.stream.specs.Pieces.{takenCount, takenNames, stepBytes, plainNote, plain, noteFrom, stepFrom}
 use Rattle.stream.proofs.FieldLaws.{noting, note-none, note-fields, note-value, note-unknown, note-followed, note-taken, step-sent, taken-back}
 use Rattle.stream.proofs.StepLaws.{length-names}
 use Rattle.hosting.specs.declared.Note.{Note}
@@ -39,7 +39,7 @@ use Rattle.hosting.specs.Held.{withRecorded}
 use Rattle.operations.specs.Registers.{countsIn, howIn}
 use Rattle.operations.proofs.Registers.{recorded-word, second-word, recorded-set, recorded-how}
 use Rattle.statements.specs.declared.steps.Site.{Site}
-use Rattle.statements.specs.Steps.{OwnNote, leftPiece, takesNote, pieceOf, stepAs}
+use Rattle.statements.specs.Steps.{OwnNote, nothingIn, leftPiece, takesNote, pieceOf, stepAs}
 use Rattle.statements.specs.Post.{Sends}
 use Rattle.statements.proofs.StopLaws.{flagged}
 
@@ -144,6 +144,21 @@ module _ {on : Bool} {out out′ : List ℕ} {at r : ℕ} (names : List ℕ) (si
         (left-fields (taken p) count counted (omega arith) h ∙ ap noteFields (sym (left-told (did .note) p (sym takes ∙ f))))
         (subst (λ (z : StepPiece). Sent on out at (stepBytes (stepFrom z (namesBytes (taken p)))) out′ r) (made ∙ ap (pieceOf site did) left)
         (subst (λ (z : List ℕ). Sent on out at (stepBytes (stepFrom s z)) out′ r) bytes t))
+
+-- without a note of its own, and without a pending one
+nothing-is : (note : Note) → nothingIn note ≡ true → note ≡ Nothing
+nothing-is Nothing h = refl
+nothing-is (Fields a n) h = absurd (true≢false (sym h))
+nothing-is (Written a v) h = absurd (true≢false (sym h))
+nothing-is Unknown h = absurd (true≢false (sym h))
+
+pub sent-plain : {on : Bool} {out out′ : List ℕ} {at r : ℕ} (site : Site) (did : Did) (s : StepPiece) (n : NotePiece) {b d : Bool} (p : Pending) → b ≡ takesNote (did .note) p → s ≡ pieceOf site did n → b ≡ false
+    → d ≡ nothingIn (did .note) → d ≡ true → Sent on out at (stepBytes (stepFrom (plain s) [])) out′ r → Sent on out at (stepBytes (stepFields (stepAs site (didOf did) p))) out′ r
+unfolding pieceOf
+sent-plain {on} {out} {out′} {at} {r} site did s n p takes made f e y t =
+    let own : OwnNote (did .note) plainNote = own-none (nothing-is (did .note) (sym e ∙ y)) refl refl in
+    sent-with site did plainNote [] p (own .fields [] ∙ ap noteFields (sym (own-told (did .note) p (sym takes ∙ f))))
+    (subst (λ (z : StepPiece). Sent on out at (stepBytes (stepFrom (plain z) [])) out′ r) made t)
 
 -- in the first pass
 turned : (b : Bool) {d : Bool} → not b ≡ d → b ≡ not d

@@ -26,6 +26,12 @@ pub record OwnNote (note : Note) (p : NotePiece) : Type 0 where
   pub fields : (names : List ℕ) → noteFrom p names ≡ noteFields (noteOf note)
   pub untaken : p .taken ≡ false
 
+abbrev pub nothingIn : Note → Bool
+nothingIn Nothing = true
+nothingIn (Fields a n) = false
+nothingIn (Written a v) = false
+nothingIn Unknown = false
+
 abbrev pub leftPiece : ℕ → NotePiece
 leftPiece count = record { kind = cond (eqb count 0) 4 5; address = 0; count = 0; value = noVal; taken = true }
 

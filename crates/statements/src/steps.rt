@@ -11,7 +11,7 @@ ghost use Rattle.stream.specs.Stream.{Sent};
 ghost use Rattle.stream.specs.Pieces.{stepBytes};
 ghost use Rattle.hosting.specs.Ending.{didOf};
 ghost use Rattle.operations.specs.Registers.{howIn};
-ghost use Rattle.statements.specs.Steps.{OwnNote, leftPiece, takesNote, pieceOf, stepAs};
+ghost use Rattle.statements.specs.Steps.{OwnNote, nothingIn, leftPiece, takesNote, pieceOf, stepAs};
 use crate::maybe::is_known;
 use crate::maybe::number_of;
 use hosting::Did;
@@ -28,6 +28,18 @@ pub struct Site {
     pub address: Maybe,
     pub block: usize,
     pub statement: usize,
+}
+
+// Whether a statement makes no note itself.
+fn is_nothing(note: Note) -> bool
+    ensures { λ r. ⌜ r ≡ nothingIn note ⌝ }
+{
+    match note {
+        Note::Nothing => true,
+        Note::Fields(_, _) => false,
+        Note::Written(_, _) => false,
+        Note::Unknown => false,
+    }
 }
 
 fn note_of(kind: u64, address: u64, count: u64, value: Val) -> NotePiece
@@ -114,6 +126,10 @@ pub fn send(ws: &[u8], out: &mut [u8], site: Site, did: Did, at: u64) -> u64
     if takes(ws, note) {
         let s = piece(site, did, left_note(workspace::note::name_count(ws)));
         return stream::step(out, at, on, s, workspace::note::names(ws));
+    }
+    if is_nothing(note) {
+        let s = piece(site, did, stream::no_note());
+        return stream::plain_step(out, at, on, s);
     }
     let s = piece(site, did, own_note(note));
     stream::step(out, at, on, s, ws)

@@ -1,7 +1,7 @@
 -- The bytes of a step: their groups, the taken names, and their length. Assumes nothing.
 use mathlib.Core.Path.{_≡_, refl, sym, ap, ap₂, _∙_}
 use mathlib.Core.Bool.{Bool, true, false, cond}
-use mathlib.Core.List.{List, _++_}
+use mathlib.Core.List.{List, [], _++_}
 use mathlib.Core.Option.{Option}
 use Prim.Native.Nat.{ℕ, _+_, _-_, _*_, _≤_}
 use native.Mathlib.Omega.{arith}
@@ -18,9 +18,10 @@ use Rattle.layout.proofs.FormatLaws.{length-reads}
 use Rattle.memory.proofs.EntryLaws.{Sized, number-sized, length-writes, writes-reads}
 use Rattle.definition.specs.Fields.{noVal, flagAndNumber}
 use Rattle.definition.specs.Record.{wroteFields}
+use Rattle.stream.specs.declared.NotePiece.{NotePiece}
 use Rattle.stream.specs.declared.StepPiece.{StepPiece}
 use Rattle.value.specs.Encoding.{valBytes}
-use Rattle.stream.specs.Pieces.{optional, stepBytes, noteFrom, stepFrom, takenCount, takenNames}
+use Rattle.stream.specs.Pieces.{optional, stepBytes, plainNote, plain, noteFrom, stepFrom, takenCount, takenNames}
 use Rattle.stream.specs.Groups.{flaggedBytes, placeBytes, wroteBytes, noteBytes, namesBytes}
 use Rattle.stream.proofs.StoreLaws.{two-stored}
 
@@ -113,7 +114,31 @@ module _ (p : StepPiece) (names : List ℕ) where
       ∙ ap (λ (l : List ℕ). sets s at (fixed ++ l)) (names-bytes (p .note .taken) count names (each-byte names (λ i. all i .fits)) h e)
       ∙ ap (sets s at) step-bytes
 
+  -- without a note
+  plain-bytes : placeBytes (optional (p .located) (p .address)) (p .block) (p .statement) ++ wroteBytes (wroteFields (optional (p .wrote) (p .name, p .value))) ++ noteBytes 0 0 0 noVal ++ le 2 0
+      ≡ stepBytes (stepFrom (plain p) [])
+  unfolding placeBytes wroteBytes noteBytes stepBytes noteFrom stepFrom takenNames
+  plain-bytes = refl
+
+  pub plain-stored : (s t u w x : List ℕ) (at : ℕ) (n : NotePiece) → n ≡ plainNote
+      → t ≡ sets s at (placeBytes (optional (p .located) (p .address)) (p .block) (p .statement))
+      → u ≡ sets t (at + 17) (wroteBytes (wroteFields (optional (p .wrote) (p .name, p .value))))
+      → w ≡ sets u (at + 34) (noteBytes (n .kind) (n .address) (n .count) (n .value))
+      → x ≡ putNumber w (at + 61) 2 0
+      → x ≡ sets s at (stepBytes (stepFrom (plain p) []))
+  unfolding putNumber placeBytes wroteBytes noteBytes
+  plain-stored s t u w x at n e a b c d =
+      let place = placeBytes (optional (p .located) (p .address)) (p .block) (p .statement) in
+      let wrote = wroteBytes (wroteFields (optional (p .wrote) (p .name, p .value))) in
+      let none = noteBytes 0 0 0 noVal in
+      let c′ : w ≡ sets u (at + 34) none = c ∙ ap (λ (m : NotePiece). sets u (at + 34) (noteBytes (m .kind) (m .address) (m .count) (m .value))) e in
+      two-stored (place ++ wrote ++ none) (le 2 0) s w x at (at + 61) (two-stored (place ++ wrote) none s u w at (at + 34) (two-stored place wrote s t u at (at + 17) a b refl) c′ refl) d refl
+      ∙ ap (sets s at) plain-bytes
+
   pub length-step : (count : ℕ) → count ≡ takenCount (p .note .taken) names → length (stepBytes (stepFrom p names)) ≡ 63 + 2 * count
   unfolding stepBytes noteFrom stepFrom takenNames
   length-step count e =
       omega (arith, length-names (takenNames (p .note .taken) names), length-reads (number 2) (takenCount (p .note .taken) names) (drop 2 names))
+
+pub length-plain : (p : StepPiece) → length (stepBytes (stepFrom (plain p) [])) ≡ 63
+length-plain p = length-step (plain p) [] 0 refl

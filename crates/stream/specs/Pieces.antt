@@ -8,7 +8,7 @@ use Rattle.value.specs.declared.Val.{Val}
 use Rattle.layout.specs.Number.{le, numberAt}
 use Rattle.layout.specs.Format.{number, reads}
 use Rattle.definition.specs.Question.{Asked, addressOf, sizeOf, readAt, callTo, Entry}
-use Rattle.definition.specs.Fields.{flagAndNumber, written, entry}
+use Rattle.definition.specs.Fields.{noVal, flagAndNumber, written, entry}
 use Rattle.definition.specs.Record.{wroteFields, NoteFields, StepFields, stepFormat}
 use Rattle.stream.specs.declared.Symbol.{Symbol}
 use Rattle.stream.specs.declared.Symbol.the-variants.{AddressOf, SizeOf}
@@ -60,6 +60,22 @@ takenNames taken names = reads (number 2) (takenCount taken names) (drop 2 names
 
 unfoldable pub noteFrom : NotePiece → List ℕ → NoteFields
 noteFrom n names = (n .kind, (n .address, (n .count, (n .value, takenNames (n .taken) names))))
+
+abbrev pub plainNote : NotePiece
+plainNote = record { kind = 0; address = 0; count = 0; value = noVal; taken = false }
+
+-- a step without its note
+abbrev pub plain : StepPiece → StepPiece
+plain s = record {
+  located = s .located;
+  address = s .address;
+  block = s .block;
+  statement = s .statement;
+  wrote = s .wrote;
+  name = s .name;
+  value = s .value;
+  note = plainNote;
+}
 
 unfoldable pub stepFrom : StepPiece → List ℕ → StepFields
 stepFrom s names =

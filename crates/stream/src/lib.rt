@@ -10,7 +10,7 @@ ghost use Rattle.layout.specs.Number.{le};
 ghost use Rattle.definition.specs.Fields.{noVal, flagAndNumber, codeOf};
 ghost use Rattle.definition.specs.Record.{wroteFields, countsBody};
 ghost use Rattle.stream.specs.Stream.{advanced, Sent};
-ghost use Rattle.stream.specs.Pieces.{optional, askedBy, questionBytes, symbolEntry, readEntry, callBytes, takenCount, stepBytes, stepFrom};
+ghost use Rattle.stream.specs.Pieces.{optional, askedBy, questionBytes, symbolEntry, readEntry, callBytes, takenCount, stepBytes, plainNote, plain, stepFrom};
 ghost use Rattle.stream.specs.Groups.{flaggedBytes, spanBytes, calleeBytes, placeBytes, wroteBytes, noteBytes, namesBytes, causeBytes, namedBytes};
 ghost use Rattle.stream.specs.Bodies.{stopBytes, stopFrom, stopSize, stopPlace, pairsOf, lengthsOf, lastEnd};
 use layout::put8;
@@ -258,6 +258,19 @@ pub struct NotePiece {
     pub taken: bool,
 }
 
+// No note.
+pub fn no_note() -> NotePiece
+    ensures { λ r. ⌜ r ≡ plainNote ⌝ }
+{
+    NotePiece {
+        kind: 0,
+        address: 0,
+        count: 0,
+        value: no_value(),
+        taken: false,
+    }
+}
+
 // One statement run: an address if it is located, a name and a value if it wrote.
 pub struct StepPiece {
     pub located: bool,
@@ -326,6 +339,17 @@ fn put_step(part: &mut [u8], at: usize, s: StepPiece, names: &[u8], count: usize
     put_names(part, at + 61, names, count);
 }
 
+// The same without a note, whatever note the piece has. Most steps have none, and zeros that are known beforehand cost less.
+fn put_plain(part: &mut [u8], at: usize, s: StepPiece)
+    requires { ⌜ at + 63 ≤ length (now part) ⌝ }
+    ensures { λ _. ⌜ now (part .exit) ≡ sets (now (part .entry)) at (stepBytes (stepFrom (plain s) [])) ⌝ }
+{
+    put_place(part, at, s);
+    put_wrote(part, at + 17, s);
+    put_note(part, at + 34, no_note());
+    put16(part, at + 61, 0);
+}
+
 // How many names a step took.
 fn taken_count(taken: bool, names: &[u8]) -> usize
     requires { ⌜ 2 ≤ length (now names) ⌝ }
@@ -349,6 +373,18 @@ pub fn step(out: &mut [u8], at: u64, on: bool, s: StepPiece, names: &[u8]) -> u6
     let next = advance(at, n);
     if has_room(out, at, on, n) {
         put_step(out, at as usize, s, names, count);
+        return next;
+    }
+    next
+}
+
+// A step without a note, whatever note the piece has.
+pub fn plain_step(out: &mut [u8], at: u64, on: bool, s: StepPiece) -> u64
+    ensures { λ r. ⌜ Sent on (now (out .entry)) at (stepBytes (stepFrom (plain s) [])) (now (out .exit)) r ⌝ }
+{
+    let next = advance(at, 63);
+    if has_room(out, at, on, 63) {
+        put_plain(out, at as usize, s);
         return next;
     }
     next

@@ -1,4 +1,4 @@
-use Rattle.statements.proofs.StepLaws.{sent-on, taken-noted, pending-below, sent-own, sent-left, names-fit, names-none}
+use Rattle.statements.proofs.StepLaws.{sent-on, taken-noted, pending-below, sent-own, sent-plain, sent-left, names-fit, names-none}
 use Rattle.workspace.specs.Note.{pendingIn}
 use Rattle.workspace.specs.Parts.{notePart}
 use denote.Ref.{now}
@@ -49,23 +49,51 @@ returns c =
     sent-on (now (start .args .ws)) (at-word .word .ensures)
     (sent-left _ (start .args .site) (start .args .did) _ (pendingIn (notePart (now (start .args .ws)))) (at-takes .takes .ensures) (at-piece .piece .ensures) (at-left-note .left-note .ensures) (at-name-count .name-count .ensures) (at-names .names .ensures) (start .pre .1) (at-if1 .if1 .taken) (pending-below (notePart (now (start .args .ws)))) (at-step .step .ensures))
 
-own-note-requires : tie.Need-own-note-requires
-own-note-requires c κs = search needs
+is-nothing-requires : tie.Need-is-nothing-requires
+is-nothing-requires c κs = search needs
+
+no-note-requires : tie.Need-no-note-requires
+no-note-requires c κs = search needs
 
 piece-requires-2 : tie.Need-piece-requires-2
 piece-requires-2 c κs = search needs
 
-step-requires-2 : tie.Need-step-requires-2
-step-requires-2 c κs = search (needs, names-none)
+plain-step-requires : tie.Need-plain-step-requires
+plain-step-requires c κs = search needs
 
 same-length-2 : tie.Need-same-length-2
 same-length-2 c = search needs
 
 returns-2 : tie.Need-returns-2
 returns-2 c =
-    let at-word = c .before .before .before .before .before .before .before .before in
+    let at-piece = c .before .before .before .before in
+    let at-if2 = at-piece .before .before in
+    let at-if1 = at-if2 .before .before in
+    let at-word = at-if1 .before .before in
     let start = at-word .before .before .before in
-    sent-on (now (start .args .ws)) (at-word .word .ensures) (search (needs, sent-own))
+    sent-on (now (start .args .ws)) (at-word .word .ensures)
+    (sent-plain (start .args .site) (start .args .did) _ _ (pendingIn (notePart (now (start .args .ws)))) (at-if1 .before .takes .ensures) (at-piece .piece2 .ensures) (at-if1 .if1 .left) (at-if2 .before .is-nothing .ensures) (at-if2 .if2 .taken) (c .before .before .plain-step .ensures))
+
+own-note-requires : tie.Need-own-note-requires
+own-note-requires c κs = search needs
+
+piece-requires-3 : tie.Need-piece-requires-3
+piece-requires-3 c κs = search needs
+
+step-requires-2 : tie.Need-step-requires-2
+step-requires-2 c κs = search (needs, names-none)
+
+same-length-3 : tie.Need-same-length-3
+same-length-3 c = search needs
+
+returns-3 : tie.Need-returns-3
+returns-3 c =
+    let at-piece = c .before .before .before .before in
+    let at-if1 = at-piece .before .before .before .before in
+    let at-word = at-if1 .before .before in
+    let start = at-word .before .before .before in
+    sent-on (now (start .args .ws)) (at-word .word .ensures)
+    (sent-own _ (start .args .site) (start .args .did) _ (pendingIn (notePart (now (start .args .ws)))) (at-if1 .before .takes .ensures) (at-piece .piece3 .ensures) (at-if1 .if1 .left) (at-piece .before .own-note .ensures) (c .before .before .step2 .ensures))
 
 pub send-spec : {M : Type 1} → statement M
 send-spec =
@@ -80,8 +108,14 @@ send-spec =
     step-requires
     same-length
     returns
-    own-note-requires
+    is-nothing-requires
+    no-note-requires
     piece-requires-2
-    step-requires-2
+    plain-step-requires
     same-length-2
-    returns-2)
+    returns-2
+    own-note-requires
+    piece-requires-3
+    step-requires-2
+    same-length-3
+    returns-3)
