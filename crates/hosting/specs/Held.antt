@@ -35,17 +35,17 @@ askedTally cursor t = record { recorded = t .recorded; asked = cursor; left = t 
 abbrev pub withAsked : ℕ → Counts → Counts
 withAsked cursor a = record { stored = a .stored; tally = askedTally cursor (a .tally) }
 
+abbrev pub recordedTally : ℕ → Tally → Tally
+recordedTally cursor t = record { recorded = cursor; asked = t .asked; left = t .left; entered = t .entered; steps = t .steps }
+
 abbrev pub withRecorded : ℕ → Counts → Counts
-withRecorded cursor a = record {
-  stored = a .stored;
-  tally = record { recorded = cursor; asked = a .tally .asked; left = a .tally .left; entered = a .tally .entered; steps = a .tally .steps };
-}
+withRecorded cursor a = record { stored = a .stored; tally = recordedTally cursor (a .tally) }
 
 abbrev pub withStored : ℕ → Counts → Counts
 withStored n a = record { stored = n; tally = a .tally }
 
 abbrev pub stepTally : Tally → ℕ → Tally
-stepTally t n = record { recorded = advanced (t .recorded) n; asked = t .asked; left = t .left; entered = t .entered; steps = t .steps }
+stepTally t n = recordedTally (advanced (t .recorded) n) t
 
 abbrev pub paidTally : (left : ℕ) → (block : Bool) → Tally → Tally
 paidTally zero b t = t

@@ -94,6 +94,7 @@ fn execute_assign(
         return false;
     }
     let v = registers::value(ws, results::RESULT);
+    // The two parts of `names::write`: the second, which is long and rare, then stays a function of its own.
     if names::write_declared(nodes, ws, left, v) {
         return true;
     }

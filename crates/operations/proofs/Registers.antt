@@ -1,8 +1,11 @@
 -- What the registers say after one is set, or where they are the same. Assumes nothing.
 use mathlib.Core.Path.{_≡_, refl, ap, _∙_}
+use mathlib.Core.Bool.{Bool, true, false, cond}
 use mathlib.Core.List.{List}
 use Prim.Native.Nat.{ℕ, _<_}
 use native.Mathlib.Omega.{arith}
+use borrow.Author.Tests.{eqb-true, eqb-false}
+use lib.Dec.{eqb}
 use Rattle.layout.specs.Format.{boolOf}
 use Rattle.value.specs.declared.Val.{Val}
 use Rattle.workspace.specs.Parts.{registersPart}
@@ -13,7 +16,7 @@ use Rattle.hosting.specs.declared.Counts.{Counts}
 use Rattle.hosting.specs.declared.How.{How}
 use Rattle.hosting.specs.declared.Short.{Short}
 use Rattle.hosting.specs.Held.{withAsked, withRecorded, withStored}
-use Rattle.operations.specs.Registers.{countsIn, unitsOf, howIn, shortIn, resultIn, toldIn, didBy}
+use Rattle.operations.specs.Registers.{countsIn, unitsOf, withUnits, howIn, shortIn, resultIn, toldIn, didBy}
 use Rattle.operations.specs.Going.{Beside}
 
 -- ---- where the part is the same
@@ -124,40 +127,56 @@ module _ {w : List ℕ} {k x : ℕ} {w′ : List ℕ} (h : SetsWord w k x w′) 
   pub how-before : k < 6 → howIn w′ ≡ howIn w
   how-before l = how-else (λ j m _ q. absurd (omega (arith, q, l, m)))
 
+-- the counts by their words
+abbrev countsBy : (ℕ → ℕ) → Counts
+countsBy f = record { stored = f 0; tally = record { recorded = f 1; asked = f 2; left = f 3; entered = f 4; steps = f 5 } }
+
+-- one of them is set: the others are as they were
+counts-set : {w : List ℕ} {k x : ℕ} {w′ : List ℕ} → SetsWord w k x w′ → countsIn w′ ≡ countsBy (λ j. cond (eqb j k) x (wordAt (registersPart w) j))
+counts-set {w} {k} {x} {w′} h = counts-by w′ (countsBy (λ j. cond (eqb j k) x (wordAt (registersPart w) j))) (at 0 (omega arith)) (at 1 (omega arith)) (at 2 (omega arith)) (at 3 (omega arith)) (at 4 (omega arith)) (at 5 (omega arith))
+  where
+    by : (j : ℕ) (e : Bool) → eqb j k ≡ e → j < wordCount → wordAt (registersPart w′) j ≡ cond e x (wordAt (registersPart w) j)
+    by j true e l = ap (wordAt (registersPart w′)) (eqb-true j k e) ∙ h .here
+    by j false e l = h .words j l (eqb-false j k e)
+
+    at : (j : ℕ) → j < wordCount → wordAt (registersPart w′) j ≡ cond (eqb j k) x (wordAt (registersPart w) j)
+    at j l = by j (eqb j k) refl l
+
 module _ {w : List ℕ} {x : ℕ} {w′ : List ℕ} where
-  -- the cursor of the questions, or the number of entries
-  pub asked-set : SetsWord w 2 x w′ → countsIn w′ ≡ withAsked x (countsIn w)
+  -- the number of entries, and the cursors of the steps and of the questions
+  pub stored-set : SetsWord w 0 x w′ → countsIn w′ ≡ withStored x (countsIn w)
   unfolding countsIn
-  asked-set h = counts-by w′ (withAsked x (countsIn w)) (at 0 (omega arith) (λ q. absurd (omega (arith, q)))) (at 1 (omega arith) (λ q. absurd (omega (arith, q)))) (h .here)
-      (at 3 (omega arith) (λ q. absurd (omega (arith, q)))) (at 4 (omega arith) (λ q. absurd (omega (arith, q)))) (at 5 (omega arith) (λ q. absurd (omega (arith, q))))
-    where
-      at : (j : ℕ) → j < wordCount → (j ≡ 2 → ⊥) → wordAt (registersPart w′) j ≡ wordAt (registersPart w) j
-      at = h .words
+  stored-set h = counts-set h
 
-  pub asked-how : SetsWord w 2 x w′ → howIn w′ ≡ howIn w
-  asked-how h = how-before h (omega arith)
-
-  -- the cursor of the steps
   pub recorded-set : SetsWord w 1 x w′ → countsIn w′ ≡ withRecorded x (countsIn w)
   unfolding countsIn
-  recorded-set h = counts-by w′ (withRecorded x (countsIn w)) (at 0 (omega arith) (λ q. absurd (omega (arith, q)))) (h .here) (at 2 (omega arith) (λ q. absurd (omega (arith, q))))
-      (at 3 (omega arith) (λ q. absurd (omega (arith, q)))) (at 4 (omega arith) (λ q. absurd (omega (arith, q)))) (at 5 (omega arith) (λ q. absurd (omega (arith, q))))
-    where
-      at : (j : ℕ) → j < wordCount → (j ≡ 1 → ⊥) → wordAt (registersPart w′) j ≡ wordAt (registersPart w) j
-      at = h .words
+  recorded-set h = counts-set h
+
+  pub asked-set : SetsWord w 2 x w′ → countsIn w′ ≡ withAsked x (countsIn w)
+  unfolding countsIn
+  asked-set h = counts-set h
+
+  -- the units that are left, and those spent on blocks and on statements
+  pub left-set : SetsWord w 3 x w′ → countsIn w′ ≡ withUnits (record { left = x; entered = countsIn w .tally .entered; steps = countsIn w .tally .steps }) (countsIn w)
+  unfolding countsIn
+  left-set h = counts-set h
+
+  pub entered-set : SetsWord w 4 x w′ → countsIn w′ ≡ withUnits (record { left = countsIn w .tally .left; entered = x; steps = countsIn w .tally .steps }) (countsIn w)
+  unfolding countsIn
+  entered-set h = counts-set h
+
+  pub steps-set : SetsWord w 5 x w′ → countsIn w′ ≡ withUnits (record { left = countsIn w .tally .left; entered = countsIn w .tally .entered; steps = x }) (countsIn w)
+  unfolding countsIn
+  steps-set h = counts-set h
+
+  pub stored-how : SetsWord w 0 x w′ → howIn w′ ≡ howIn w
+  stored-how h = how-before h (omega arith)
 
   pub recorded-how : SetsWord w 1 x w′ → howIn w′ ≡ howIn w
   recorded-how h = how-before h (omega arith)
 
-  pub stored-set : SetsWord w 0 x w′ → countsIn w′ ≡ withStored x (countsIn w)
-  unfolding countsIn
-  stored-set h = counts-by w′ (withStored x (countsIn w)) (h .here) (at 1 (omega arith)) (at 2 (omega arith)) (at 3 (omega arith)) (at 4 (omega arith)) (at 5 (omega arith))
-    where
-      at : (j : ℕ) → (0 < j) × (j < 6) → wordAt (registersPart w′) j ≡ wordAt (registersPart w) j
-      at j m = h .words j (omega arith) (λ q. absurd (omega (arith, q, m)))
-
-  pub stored-how : SetsWord w 0 x w′ → howIn w′ ≡ howIn w
-  stored-how h = how-before h (omega arith)
+  pub asked-how : SetsWord w 2 x w′ → howIn w′ ≡ howIn w
+  asked-how h = how-before h (omega arith)
 
 -- ---- a value is set
 

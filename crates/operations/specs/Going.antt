@@ -21,13 +21,6 @@ pub record Goes {A : Type 0} (g : How → Given) (m : Scene → Act A) (w₀ o�
   pub units : unitsOf (countsIn w) ≡ unitsOf (countsIn w₀)
   pub runs : (h : How) → howIn w₀ ≡ h → Ready (g h) w₀ (countsIn w₀) → Runs (g h) m w₀ o₀ (countsIn w₀) e w o (countsIn w)
 
--- what was done from the workspace w₀ took no unit and left w in order, with the same tables
-pub record Remains (g : How → Given) (w₀ w : List ℕ) : Type 0 where
-  pub how : howIn w ≡ howIn w₀
-  pub units : unitsOf (countsIn w) ≡ unitsOf (countsIn w₀)
-  pub ready : ReadyIn g w
-  pub tables : tables w ≡ tables w₀
-
 -- the same done with the workspace alone, whatever else is given
 pub record Works {A : Type 0} (m : Act A) (w₀ : List ℕ) (e : Ending A) (w : List ℕ) : Type 0 where
   pub goes : (g : How → Given) (o : List ℕ) → Goes g (λ x. m) w₀ o e w o
@@ -37,3 +30,10 @@ pub record Beside (w w′ : List ℕ) : Type 0 where
   pub aside : Aside w w′
   pub counts : countsIn w′ ≡ countsIn w
   pub how : howIn w′ ≡ howIn w
+
+-- what was done from the workspace w₀ took no unit and left w in order, with the same tables
+pub record Remains (g : How → Given) (w₀ w : List ℕ) : Type 0 where
+  pub how : howIn w ≡ howIn w₀
+  pub units : unitsOf (countsIn w) ≡ unitsOf (countsIn w₀)
+  pub ready : ReadyIn g w
+  pub tables : tables w ≡ tables w₀

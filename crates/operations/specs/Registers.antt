@@ -36,6 +36,10 @@ pub record Units : Type 0 where
 abbrev pub unitsOf : Counts → Units
 unitsOf a = record { left = a .tally .left; entered = a .tally .entered; steps = a .tally .steps }
 
+-- the counts with other units
+abbrev pub withUnits : Units → Counts → Counts
+withUnits u a = record { stored = a .stored; tally = record { recorded = a .tally .recorded; asked = a .tally .asked; left = u .left; entered = u .entered; steps = u .steps } }
+
 unfoldable pub howIn : List ℕ → How
 howIn w = record { depth = wordAt (registersPart w) 6; regions = wordAt (registersPart w) 7; second = boolOf (wordAt (registersPart w) 8) }
 

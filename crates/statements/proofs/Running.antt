@@ -21,7 +21,7 @@ use Rattle.stream.specs.Pieces.{stepBytes}
 use Rattle.hosting.specs.declared.Counts.{Counts}
 use Rattle.hosting.specs.declared.How.{How}
 use Rattle.hosting.specs.Scene.{Given, given, Scene, Ready}
-use Rattle.hosting.specs.Held.{Held, held, codeHost, emitted, withRecorded}
+use Rattle.hosting.specs.Held.{Held, held, codeHost, emitted, recordedTally, withRecorded}
 use Rattle.hosting.specs.Ending.{Ending, ended, short}
 use Rattle.hosting.specs.Runs.{Came, Runs}
 use Rattle.hosting.proofs.Running.{hostIn, kept-on}
@@ -127,7 +127,7 @@ module _ (site : Site) (e : End statements.Outcome) where
       → emitted second (stepIn w) (held w o a) ≡ held w o′ (withRecorded c a)
   unfolding held emitted
   step-held second w o o′ a c s =
-      ap₂ (λ (out : List ℕ) (n : ℕ). record { view = view w (a .stored); out = out; questions = questionsPart w; tally = record { recorded = n; asked = a .tally .asked; left = a .tally .left; entered = a .tally .entered; steps = a .tally .steps } })
+      ap₂ (λ (out : List ℕ) (n : ℕ). record { view = view w (a .stored); out = out; questions = questionsPart w; tally = recordedTally n (a .tally) })
       (sym (s .part)) (sym (s .cursor))
 
   hosted-step : (g : Given) (x : Scene) (w o : List ℕ) (a : Counts) → hosted (hostIn g x) (concluding site e) (held w o a) ≡ (gave (outcome .1), emitted (g .how .second) (stepIn w) (held w o a))

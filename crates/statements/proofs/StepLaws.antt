@@ -28,7 +28,7 @@ use Rattle.workspace.specs.Post.{SetsWord}
 use Rattle.stream.specs.declared.NotePiece.{NotePiece}
 use Rattle.stream.specs.declared.StepPiece.{StepPiece}
 use Rattle.stream.specs.Stream.{Sent}
-use Rattle.stream.specs.Pieces.{takenCount, takenNames, stepBytes, plainNote, plain, noteFrom, stepFrom}
+use Rattle.stream.specs.Pieces.{takenCount, takenNames, stepBytes, noneNoted, noteFrom, stepFrom}
 use Rattle.stream.proofs.FieldLaws.{noting, note-none, note-fields, note-value, note-unknown, note-followed, note-taken, step-sent, taken-back}
 use Rattle.stream.proofs.StepLaws.{length-names}
 use Rattle.hosting.specs.declared.Note.{Note}
@@ -46,8 +46,8 @@ use Rattle.statements.proofs.StopLaws.{flagged}
 -- ---- a note of its own
 
 module _ {note : Note} {p : NotePiece} where
-  pub own-none : {v : Val} → note ≡ Nothing → v ≡ noVal → p ≡ noting 0 0 0 v false → OwnNote note p
-  own-none e z h = rw (e, h, z) (record { fields = λ names. note-none names; untaken = refl })
+  pub own-none : note ≡ Nothing → p ≡ noneNoted → OwnNote note p
+  own-none e h = rw (e, h) (record { fields = λ names. note-none names; untaken = refl })
 
   pub own-fields : {a n : ℕ} {v : Val} → note ≡ Fields a n → v ≡ noVal → p ≡ noting 1 a n v false → OwnNote note p
   own-fields {a} {n} e z h = rw (e, h, z) (record { fields = λ names. note-fields names a n; untaken = refl })
@@ -123,42 +123,34 @@ left-fields xs count e l h = go (eqb count 0) refl ∙ ap (λ (ys : List ℕ). n
 -- ---- the step
 
 -- a piece with a note has the step's fields where the note has
-sent-with : {on : Bool} {out out′ : List ℕ} {at r : ℕ} (site : Site) (did : Did) (n : NotePiece) (names : List ℕ) (p : Pending)
-    → noteFrom n names ≡ noteFields (statements.noteOf (noteOf (did .note)) p) → Sent on out at (stepBytes (stepFrom (pieceOf site did n) names)) out′ r
+sent-with : {on : Bool} {out out′ : List ℕ} {at r : ℕ} (site : Site) (did : Did) (s : StepPiece) (n : NotePiece) (names : List ℕ) (p : Pending) → s ≡ pieceOf site did
+    → noteFrom n names ≡ noteFields (statements.noteOf (noteOf (did .note)) p) → Sent on out at (stepBytes (stepFrom s n names)) out′ r
     → Sent on out at (stepBytes (stepFields (stepAs site (didOf did) p))) out′ r
 unfolding pieceOf
-sent-with site did n names p e s =
-    step-sent (pieceOf site did n) names (stepAs site (didOf did) p) s (flagged (site .address)) refl refl refl e
+sent-with {on} {out} {out′} {at} {r} site did s n names p made e t =
+    step-sent (pieceOf site did) n names (stepAs site (didOf did) p) (subst (λ (z : StepPiece). Sent on out at (stepBytes (stepFrom z n names)) out′ r) made t) (flagged (site .address)) refl refl refl e
 
-module _ {on : Bool} {out out′ : List ℕ} {at r : ℕ} (names : List ℕ) (site : Site) (did : Did) (s : StepPiece) {n : NotePiece} {b : Bool} (p : Pending)
-    (takes : b ≡ takesNote (did .note) p) (made : s ≡ pieceOf site did n) where
-  pub sent-own : b ≡ false → OwnNote (did .note) n → Sent on out at (stepBytes (stepFrom s names)) out′ r → Sent on out at (stepBytes (stepFields (stepAs site (didOf did) p))) out′ r
-  sent-own f o t =
-      sent-with site did n names p (o .fields names ∙ ap noteFields (sym (own-told (did .note) p (sym takes ∙ f))))
-      (subst (λ (z : StepPiece). Sent on out at (stepBytes (stepFrom z names)) out′ r) made t)
-
-  module _ {count : ℕ} (left : n ≡ leftPiece count) (counted : count ≡ length (taken p)) (bytes : names ≡ namesBytes (taken p)) (few : Few p) where
-    pub sent-left : b ≡ true → Each (Below 2) (taken p) → Sent on out at (stepBytes (stepFrom s names)) out′ r → Sent on out at (stepBytes (stepFields (stepAs site (didOf did) p))) out′ r
-    sent-left f h t =
-        sent-with site did (leftPiece count) (namesBytes (taken p)) p
-        (left-fields (taken p) count counted (omega arith) h ∙ ap noteFields (sym (left-told (did .note) p (sym takes ∙ f))))
-        (subst (λ (z : StepPiece). Sent on out at (stepBytes (stepFrom z (namesBytes (taken p)))) out′ r) (made ∙ ap (pieceOf site did) left)
-        (subst (λ (z : List ℕ). Sent on out at (stepBytes (stepFrom s z)) out′ r) bytes t))
-
--- without a note of its own, and without a pending one
+-- without a note of its own
 nothing-is : (note : Note) → nothingIn note ≡ true → note ≡ Nothing
 nothing-is Nothing h = refl
 nothing-is (Fields a n) h = absurd (true≢false (sym h))
 nothing-is (Written a v) h = absurd (true≢false (sym h))
 nothing-is Unknown h = absurd (true≢false (sym h))
 
-pub sent-plain : {on : Bool} {out out′ : List ℕ} {at r : ℕ} (site : Site) (did : Did) (s : StepPiece) (n : NotePiece) {b d : Bool} (p : Pending) → b ≡ takesNote (did .note) p → s ≡ pieceOf site did n → b ≡ false
-    → d ≡ nothingIn (did .note) → d ≡ true → Sent on out at (stepBytes (stepFrom (plain s) [])) out′ r → Sent on out at (stepBytes (stepFields (stepAs site (didOf did) p))) out′ r
-unfolding pieceOf
-sent-plain {on} {out} {out′} {at} {r} site did s n p takes made f e y t =
-    let own : OwnNote (did .note) plainNote = own-none (nothing-is (did .note) (sym e ∙ y)) refl refl in
-    sent-with site did plainNote [] p (own .fields [] ∙ ap noteFields (sym (own-told (did .note) p (sym takes ∙ f))))
-    (subst (λ (z : StepPiece). Sent on out at (stepBytes (stepFrom (plain z) [])) out′ r) made t)
+module _ {on : Bool} {out out′ : List ℕ} {at r : ℕ} (site : Site) (did : Did) (s : StepPiece) {b : Bool} (p : Pending) (takes : b ≡ takesNote (did .note) p) (made : s ≡ pieceOf site did) where
+  pub sent-own : (names : List ℕ) {n : NotePiece} → b ≡ false → OwnNote (did .note) n → Sent on out at (stepBytes (stepFrom s n names)) out′ r → Sent on out at (stepBytes (stepFields (stepAs site (didOf did) p))) out′ r
+  sent-own names {n} f o t = sent-with site did s n names p made (o .fields names ∙ ap noteFields (sym (own-told (did .note) p (sym takes ∙ f)))) t
+
+  pub sent-plain : {d : Bool} → b ≡ false → d ≡ nothingIn (did .note) → d ≡ true → Sent on out at (stepBytes (stepFrom s noneNoted [])) out′ r → Sent on out at (stepBytes (stepFields (stepAs site (didOf did) p))) out′ r
+  sent-plain f e y t = sent-own [] f (own-none (nothing-is (did .note) (sym e ∙ y)) refl) t
+
+  module _ (names : List ℕ) {n : NotePiece} {count : ℕ} (left : n ≡ leftPiece count) (counted : count ≡ length (taken p)) (bytes : names ≡ namesBytes (taken p)) (few : Few p) where
+    pub sent-left : b ≡ true → Each (Below 2) (taken p) → Sent on out at (stepBytes (stepFrom s n names)) out′ r → Sent on out at (stepBytes (stepFields (stepAs site (didOf did) p))) out′ r
+    sent-left f h t =
+        sent-with site did s (leftPiece count) (namesBytes (taken p)) p made
+        (left-fields (taken p) count counted (omega arith) h ∙ ap noteFields (sym (left-told (did .note) p (sym takes ∙ f))))
+        (subst (λ (z : NotePiece). Sent on out at (stepBytes (stepFrom s z (namesBytes (taken p)))) out′ r) left
+        (subst (λ (z : List ℕ). Sent on out at (stepBytes (stepFrom s n z)) out′ r) bytes t))
 
 -- in the first pass
 turned : (b : Bool) {d : Bool} → not b ≡ d → b ≡ not d
@@ -186,17 +178,12 @@ sends-of {site} {d} {w} {o} {w′} {o′} {at} {cursor} e s h = record {
     after = sym (h .here) ∙ recorded-word w′
 
 -- what a step needs of the names beside it
-pub names-fit : (site : Site) (did : Did) {s : StepPiece} {n : NotePiece} (count : ℕ) (xs : List ℕ) {names : List ℕ} → s ≡ pieceOf site did n → n ≡ leftPiece count → names ≡ namesBytes xs → length xs ≤ 16
-    → 2 + 2 * takenCount (s .note .taken) names ≤ length names
-unfolding pieceOf
-names-fit site did {s} count xs {names} made left bytes few =
-    let t : takenCount (s .note .taken) names ≡ length xs = ap (λ (z : StepPiece). takenCount (z .note .taken) names) made ∙ ap (λ (z : NotePiece). takenCount (z .taken) names) left
-    ∙ ap (takenCount true) bytes ∙ names-count xs (omega arith) in
+pub names-fit : {n : NotePiece} (count : ℕ) (xs : List ℕ) {names : List ℕ} → n ≡ leftPiece count → names ≡ namesBytes xs → length xs ≤ 16 → 2 + 2 * takenCount (n .taken) names ≤ length names
+names-fit {n} count xs {names} left bytes few =
+    let t : takenCount (n .taken) names ≡ length xs = ap (λ (z : NotePiece). takenCount (z .taken) names) left ∙ ap (takenCount true) bytes ∙ names-count xs (omega arith) in
     omega (arith, t, ap length bytes, names-length xs, length-names xs)
 
-pub names-none : (site : Site) (did : Did) {s : StepPiece} {n : NotePiece} (w : List ℕ) → s ≡ pieceOf site did n → OwnNote (did .note) n → workspaceSize ≤ length w
-    → 2 + 2 * takenCount (s .note .taken) w ≤ length w
-unfolding pieceOf
-names-none site did {s} {n} w made o room =
-    let t : takenCount (s .note .taken) w ≡ 0 = ap (λ (z : StepPiece). takenCount (z .note .taken) w) made ∙ ap (λ (z : Bool). takenCount z w) (o .untaken) in
+pub names-none : {note : Note} {n : NotePiece} (w : List ℕ) → OwnNote note n → workspaceSize ≤ length w → 2 + 2 * takenCount (n .taken) w ≤ length w
+names-none {n = n} w o room =
+    let t : takenCount (n .taken) w ≡ 0 = ap (λ (z : Bool). takenCount z w) (o .untaken) in
     omega (arith, t)

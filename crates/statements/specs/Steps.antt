@@ -41,8 +41,8 @@ takesNote (Fields a n) p = false
 takesNote (Written a v) p = false
 takesNote Unknown p = false
 
-unfoldable pub pieceOf : Site → Did → NotePiece → StepPiece
-pieceOf s d n = record {
+unfoldable pub pieceOf : Site → Did → StepPiece
+pieceOf s d = record {
   located = knownOf (s .address);
   address = numberOf (s .address);
   block = s .block;
@@ -50,7 +50,6 @@ pieceOf s d n = record {
   wrote = d .wrote;
   name = d .name;
   value = d .value;
-  note = n;
 }
 
 -- the definition's step of what was done, with the pending note

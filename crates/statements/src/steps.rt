@@ -59,7 +59,7 @@ fn own_note(note: Note) -> NotePiece
     ensures { λ r. ⌜ OwnNote note r ⌝ }
 {
     match note {
-        Note::Nothing => note_of(0, 0, 0, stream::no_value()),
+        Note::Nothing => stream::no_note(),
         Note::Fields(address, count) => note_of(1, address, count, stream::no_value()),
         Note::Written(address, v) => note_of(2, address, 0, v),
         Note::Unknown => note_of(3, 0, 0, stream::no_value()),
@@ -99,8 +99,8 @@ fn takes(ws: &[u8], note: Note) -> bool
     }
 }
 
-fn piece(site: Site, did: Did, note: NotePiece) -> StepPiece
-    ensures { λ r. ⌜ r ≡ pieceOf site did note ⌝ }
+fn piece(site: Site, did: Did) -> StepPiece
+    ensures { λ r. ⌜ r ≡ pieceOf site did ⌝ }
 {
     let address = site.address;
     let value = did.value;
@@ -112,7 +112,6 @@ fn piece(site: Site, did: Did, note: NotePiece) -> StepPiece
         wrote: did.wrote,
         name: did.name as u64,
         value,
-        note,
     }
 }
 
@@ -122,15 +121,14 @@ pub fn send(ws: &[u8], out: &mut [u8], site: Site, did: Did, at: u64) -> u64
     ensures { λ r. ⌜ Sent (not (howIn (now (ws .entry)) .second)) (now (out .entry)) at (stepBytes (stepFields (stepAs site (didOf did) (pendingIn (notePart (now (ws .entry))))))) (now (out .exit)) r ⌝ }
 {
     let on = registers::word(ws, SECOND) == 0;
+    let s = piece(site, did);
     let note = did.note;
     if takes(ws, note) {
-        let s = piece(site, did, left_note(workspace::note::name_count(ws)));
-        return stream::step(out, at, on, s, workspace::note::names(ws));
+        let left = left_note(workspace::note::name_count(ws));
+        return stream::step(out, at, on, s, left, workspace::note::names(ws));
     }
     if is_nothing(note) {
-        let s = piece(site, did, stream::no_note());
         return stream::plain_step(out, at, on, s);
     }
-    let s = piece(site, did, own_note(note));
-    stream::step(out, at, on, s, ws)
+    stream::step(out, at, on, s, own_note(note), ws)
 }

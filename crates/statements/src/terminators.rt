@@ -74,7 +74,7 @@ fn switch_to(blocks: &[u8], start: usize, count: usize, root: usize, v: Val) -> 
     }
 }
 
-// The same of what was evaluated.
+// A Branch by what its value came to.
 fn taken(root: usize, taken: usize, next: usize, e: Outcome) -> Lead
     ensures { λ r. ⌜ leadEnd r ≡ bindEnd (branches root taken next) (endOf e) ⌝ }
 {
@@ -84,6 +84,7 @@ fn taken(root: usize, taken: usize, next: usize, e: Outcome) -> Lead
     }
 }
 
+// A Switch by what its value came to.
 fn chosen(blocks: &[u8], start: usize, count: usize, root: usize, e: Outcome) -> Lead
     requires { ⌜ start + 24 + count * 12 ≤ length (now blocks) ⌝ }
     ensures { λ r. ⌜ leadEnd r ≡ bindEnd (switches root (listed (caseAt (now (blocks .entry)) (start + 24)) 0 count)) (endOf e) ⌝ }

@@ -69,17 +69,17 @@ module _ (names : List ℕ) where
   note-taken h = some-taken (takenNames true names) (λ e. h (sym (length-taken true names) ∙ e))
 
 -- a step's fields are its piece's, where each part is
-pub step-fields : (p : StepPiece) (names : List ℕ) (s : Step) → optional (p .located) (p .address) ≡ s .address → p .block ≡ s .block → p .statement ≡ s .statement
-    → optional (p .wrote) (p .name, p .value) ≡ s .wrote → noteFrom (p .note) names ≡ noteFields (s .note) → stepFrom p names ≡ stepFields s
+pub step-fields : (p : StepPiece) (n : NotePiece) (names : List ℕ) (s : Step) → optional (p .located) (p .address) ≡ s .address → p .block ≡ s .block → p .statement ≡ s .statement
+    → optional (p .wrote) (p .name, p .value) ≡ s .wrote → noteFrom n names ≡ noteFields (s .note) → stepFrom p n names ≡ stepFields s
 unfolding stepFrom
-step-fields p names s a b c d e = λ i. (flagAndNumber (a i), (b i, (c i, (wroteFields (d i), e i))))
+step-fields p n names s a b c d e = λ i. (flagAndNumber (a i), (b i, (c i, (wroteFields (d i), e i))))
 
 -- so what a writer sent is the step
-pub step-sent : {on : Bool} {out out′ : List ℕ} {at r : ℕ} (p : StepPiece) (names : List ℕ) (s : Step) → Sent on out at (stepBytes (stepFrom p names)) out′ r
+pub step-sent : {on : Bool} {out out′ : List ℕ} {at r : ℕ} (p : StepPiece) (n : NotePiece) (names : List ℕ) (s : Step) → Sent on out at (stepBytes (stepFrom p n names)) out′ r
     → optional (p .located) (p .address) ≡ s .address → p .block ≡ s .block → p .statement ≡ s .statement → optional (p .wrote) (p .name, p .value) ≡ s .wrote
-    → noteFrom (p .note) names ≡ noteFields (s .note) → Sent on out at (stepBytes (stepFields s)) out′ r
-step-sent {on} {out} {out′} {at} {r} p names s t a b c d e =
-    subst (λ (f : StepFields). Sent on out at (stepBytes f) out′ r) (step-fields p names s a b c d e) t
+    → noteFrom n names ≡ noteFields (s .note) → Sent on out at (stepBytes (stepFields s)) out′ r
+step-sent {on} {out} {out′} {at} {r} p n names s t a b c d e =
+    subst (λ (f : StepFields). Sent on out at (stepBytes f) out′ r) (step-fields p n names s a b c d e) t
 
 -- names written behind their count are the names taken
 pub taken-back : (xs rest : List ℕ) → length xs < 256 ^ 2 → Each (Below 2) xs → takenNames true (le 2 (length xs) ++ writes (number 2) xs ++ rest) ≡ xs

@@ -21,7 +21,7 @@ use Rattle.definition.specs.Record.{wroteFields}
 use Rattle.stream.specs.declared.NotePiece.{NotePiece}
 use Rattle.stream.specs.declared.StepPiece.{StepPiece}
 use Rattle.value.specs.Encoding.{valBytes}
-use Rattle.stream.specs.Pieces.{optional, stepBytes, plainNote, plain, noteFrom, stepFrom, takenCount, takenNames}
+use Rattle.stream.specs.Pieces.{optional, stepBytes, noneNoted, noteFrom, stepFrom, takenCount, takenNames}
 use Rattle.stream.specs.Groups.{flaggedBytes, placeBytes, wroteBytes, noteBytes, namesBytes}
 use Rattle.stream.proofs.StoreLaws.{two-stored}
 
@@ -87,58 +87,62 @@ names-bytes taken count names all h e =
 
 -- ---- the step
 
-module _ (p : StepPiece) (names : List ℕ) where
-  abbrev fixed : List ℕ
-  fixed =
-      placeBytes (optional (p .located) (p .address)) (p .block) (p .statement)
-      ++ wroteBytes (wroteFields (optional (p .wrote) (p .name, p .value)))
-      ++ noteBytes (p .note .kind) (p .note .address) (p .note .count) (p .note .value)
+-- up to the taken names
+abbrev fixed : StepPiece → NotePiece → List ℕ
+fixed p n =
+    placeBytes (optional (p .located) (p .address)) (p .block) (p .statement)
+    ++ wroteBytes (wroteFields (optional (p .wrote) (p .name, p .value)))
+    ++ noteBytes (n .kind) (n .address) (n .count) (n .value)
 
-  step-bytes : fixed ++ (le 2 (length (takenNames (p .note .taken) names)) ++ writes (number 2) (takenNames (p .note .taken) names)) ≡ stepBytes (stepFrom p names)
+fixed-stored : (p : StepPiece) (n : NotePiece) (last s t u w x : List ℕ) (at : ℕ)
+    → t ≡ sets s at (placeBytes (optional (p .located) (p .address)) (p .block) (p .statement))
+    → u ≡ sets t (at + 17) (wroteBytes (wroteFields (optional (p .wrote) (p .name, p .value))))
+    → w ≡ sets u (at + 34) (noteBytes (n .kind) (n .address) (n .count) (n .value))
+    → x ≡ sets w (at + 61) last
+    → x ≡ sets s at (fixed p n ++ last)
+unfolding placeBytes wroteBytes noteBytes
+fixed-stored p n last s t u w x at a b c d =
+    let place = placeBytes (optional (p .located) (p .address)) (p .block) (p .statement) in
+    let wrote = wroteBytes (wroteFields (optional (p .wrote) (p .name, p .value))) in
+    let note = noteBytes (n .kind) (n .address) (n .count) (n .value) in
+    two-stored (place ++ wrote ++ note) last s w x at (at + 61)
+    (two-stored (place ++ wrote) note s u w at (at + 34) (two-stored place wrote s t u at (at + 17) a b refl) c refl) d refl
+
+module _ (p : StepPiece) (n : NotePiece) (names : List ℕ) where
+  step-bytes : fixed p n ++ (le 2 (length (takenNames (n .taken) names)) ++ writes (number 2) (takenNames (n .taken) names)) ≡ stepBytes (stepFrom p n names)
   unfolding placeBytes wroteBytes noteBytes stepBytes noteFrom stepFrom
   step-bytes = refl
 
-  pub step-stored : (s t u w x : List ℕ) (at count : ℕ) → count ≡ takenCount (p .note .taken) names → 2 + 2 * count ≤ length names → ((i : ℕ) → Fits w8 (getD names i 0))
+  pub step-stored : (s t u w x : List ℕ) (at count : ℕ) → count ≡ takenCount (n .taken) names → 2 + 2 * count ≤ length names → ((i : ℕ) → Fits w8 (getD names i 0))
       → t ≡ sets s at (placeBytes (optional (p .located) (p .address)) (p .block) (p .statement))
       → u ≡ sets t (at + 17) (wroteBytes (wroteFields (optional (p .wrote) (p .name, p .value))))
-      → w ≡ sets u (at + 34) (noteBytes (p .note .kind) (p .note .address) (p .note .count) (p .note .value))
+      → w ≡ sets u (at + 34) (noteBytes (n .kind) (n .address) (n .count) (n .value))
       → x ≡ sets w (at + 61) (namesBytes count names)
-      → x ≡ sets s at (stepBytes (stepFrom p names))
-  unfolding placeBytes wroteBytes noteBytes
+      → x ≡ sets s at (stepBytes (stepFrom p n names))
   step-stored s t u w x at count e h all a b c d =
-      let place = placeBytes (optional (p .located) (p .address)) (p .block) (p .statement) in
-      let wrote = wroteBytes (wroteFields (optional (p .wrote) (p .name, p .value))) in
-      let note = noteBytes (p .note .kind) (p .note .address) (p .note .count) (p .note .value) in
-      two-stored (place ++ wrote ++ note) (namesBytes count names) s w x at (at + 61)
-      (two-stored (place ++ wrote) note s u w at (at + 34) (two-stored place wrote s t u at (at + 17) a b refl) c refl) d refl
-      ∙ ap (λ (l : List ℕ). sets s at (fixed ++ l)) (names-bytes (p .note .taken) count names (each-byte names (λ i. all i .fits)) h e)
+      fixed-stored p n (namesBytes count names) s t u w x at a b c d
+      ∙ ap (λ (l : List ℕ). sets s at (fixed p n ++ l)) (names-bytes (n .taken) count names (each-byte names (λ i. all i .fits)) h e)
       ∙ ap (sets s at) step-bytes
 
-  -- without a note
-  plain-bytes : placeBytes (optional (p .located) (p .address)) (p .block) (p .statement) ++ wroteBytes (wroteFields (optional (p .wrote) (p .name, p .value))) ++ noteBytes 0 0 0 noVal ++ le 2 0
-      ≡ stepBytes (stepFrom (plain p) [])
+  pub length-step : (count : ℕ) → count ≡ takenCount (n .taken) names → length (stepBytes (stepFrom p n names)) ≡ 63 + 2 * count
+  unfolding stepBytes noteFrom stepFrom takenNames
+  length-step count e =
+      omega (arith, length-names (takenNames (n .taken) names), length-reads (number 2) (takenCount (n .taken) names) (drop 2 names))
+
+-- without a note
+module _ (p : StepPiece) where
+  plain-bytes : fixed p noneNoted ++ le 2 0 ≡ stepBytes (stepFrom p noneNoted [])
   unfolding placeBytes wroteBytes noteBytes stepBytes noteFrom stepFrom takenNames
   plain-bytes = refl
 
-  pub plain-stored : (s t u w x : List ℕ) (at : ℕ) (n : NotePiece) → n ≡ plainNote
+  pub plain-stored : (s t u w x : List ℕ) (at : ℕ) (n : NotePiece) → n ≡ noneNoted
       → t ≡ sets s at (placeBytes (optional (p .located) (p .address)) (p .block) (p .statement))
       → u ≡ sets t (at + 17) (wroteBytes (wroteFields (optional (p .wrote) (p .name, p .value))))
       → w ≡ sets u (at + 34) (noteBytes (n .kind) (n .address) (n .count) (n .value))
       → x ≡ putNumber w (at + 61) 2 0
-      → x ≡ sets s at (stepBytes (stepFrom (plain p) []))
-  unfolding putNumber placeBytes wroteBytes noteBytes
-  plain-stored s t u w x at n e a b c d =
-      let place = placeBytes (optional (p .located) (p .address)) (p .block) (p .statement) in
-      let wrote = wroteBytes (wroteFields (optional (p .wrote) (p .name, p .value))) in
-      let none = noteBytes 0 0 0 noVal in
-      let c′ : w ≡ sets u (at + 34) none = c ∙ ap (λ (m : NotePiece). sets u (at + 34) (noteBytes (m .kind) (m .address) (m .count) (m .value))) e in
-      two-stored (place ++ wrote ++ none) (le 2 0) s w x at (at + 61) (two-stored (place ++ wrote) none s u w at (at + 34) (two-stored place wrote s t u at (at + 17) a b refl) c′ refl) d refl
-      ∙ ap (sets s at) plain-bytes
+      → x ≡ sets s at (stepBytes (stepFrom p noneNoted []))
+  unfolding putNumber
+  plain-stored s t u w x at n e a b c d = fixed-stored p n (le 2 0) s t u w x at a b c d ∙ ap (λ (m : NotePiece). sets s at (fixed p m ++ le 2 0)) e ∙ ap (sets s at) plain-bytes
 
-  pub length-step : (count : ℕ) → count ≡ takenCount (p .note .taken) names → length (stepBytes (stepFrom p names)) ≡ 63 + 2 * count
-  unfolding stepBytes noteFrom stepFrom takenNames
-  length-step count e =
-      omega (arith, length-names (takenNames (p .note .taken) names), length-reads (number 2) (takenCount (p .note .taken) names) (drop 2 names))
-
-pub length-plain : (p : StepPiece) → length (stepBytes (stepFrom (plain p) [])) ≡ 63
-length-plain p = length-step (plain p) [] 0 refl
+  pub length-plain : length (stepBytes (stepFrom p noneNoted [])) ≡ 63
+  length-plain = length-step p noneNoted [] 0 refl

@@ -61,24 +61,12 @@ takenNames taken names = reads (number 2) (takenCount taken names) (drop 2 names
 unfoldable pub noteFrom : NotePiece → List ℕ → NoteFields
 noteFrom n names = (n .kind, (n .address, (n .count, (n .value, takenNames (n .taken) names))))
 
-abbrev pub plainNote : NotePiece
-plainNote = record { kind = 0; address = 0; count = 0; value = noVal; taken = false }
+-- no note
+abbrev pub noneNoted : NotePiece
+noneNoted = record { kind = 0; address = 0; count = 0; value = noVal; taken = false }
 
--- a step without its note
-abbrev pub plain : StepPiece → StepPiece
-plain s = record {
-  located = s .located;
-  address = s .address;
-  block = s .block;
-  statement = s .statement;
-  wrote = s .wrote;
-  name = s .name;
-  value = s .value;
-  note = plainNote;
-}
-
-unfoldable pub stepFrom : StepPiece → List ℕ → StepFields
-stepFrom s names =
+unfoldable pub stepFrom : StepPiece → NotePiece → List ℕ → StepFields
+stepFrom s note names =
     let address = flagAndNumber (optional (s .located) (s .address)) in
     let wrote = wroteFields (optional (s .wrote) (s .name, s .value)) in
-    (address, (s .block, (s .statement, (wrote, noteFrom (s .note) names))))
+    (address, (s .block, (s .statement, (wrote, noteFrom note names))))

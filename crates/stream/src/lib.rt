@@ -10,7 +10,7 @@ ghost use Rattle.layout.specs.Number.{le};
 ghost use Rattle.definition.specs.Fields.{noVal, flagAndNumber, codeOf};
 ghost use Rattle.definition.specs.Record.{wroteFields, countsBody};
 ghost use Rattle.stream.specs.Stream.{advanced, Sent};
-ghost use Rattle.stream.specs.Pieces.{optional, askedBy, questionBytes, symbolEntry, readEntry, callBytes, takenCount, stepBytes, plainNote, plain, stepFrom};
+ghost use Rattle.stream.specs.Pieces.{optional, askedBy, questionBytes, symbolEntry, readEntry, callBytes, takenCount, stepBytes, noneNoted, stepFrom};
 ghost use Rattle.stream.specs.Groups.{flaggedBytes, spanBytes, calleeBytes, placeBytes, wroteBytes, noteBytes, namesBytes, causeBytes, namedBytes};
 ghost use Rattle.stream.specs.Bodies.{stopBytes, stopFrom, stopSize, stopPlace, pairsOf, lengthsOf, lastEnd};
 use layout::put8;
@@ -260,7 +260,7 @@ pub struct NotePiece {
 
 // No note.
 pub fn no_note() -> NotePiece
-    ensures { λ r. ⌜ r ≡ plainNote ⌝ }
+    ensures { λ r. ⌜ r ≡ noneNoted ⌝ }
 {
     NotePiece {
         kind: 0,
@@ -271,7 +271,7 @@ pub fn no_note() -> NotePiece
     }
 }
 
-// One statement run: an address if it is located, a name and a value if it wrote.
+// One statement run: an address if it is located, a name and a value if it wrote. Its note stands beside it.
 pub struct StepPiece {
     pub located: bool,
     pub address: u64,
@@ -280,7 +280,6 @@ pub struct StepPiece {
     pub wrote: bool,
     pub name: u64,
     pub value: Val,
-    pub note: NotePiece,
 }
 
 fn value_if(known: bool, v: Val) -> Val
@@ -329,20 +328,20 @@ fn put_names(part: &mut [u8], at: usize, names: &[u8], count: usize)
     put_bytes(part, at + 2, &names[2..], 2 * count);
 }
 
-fn put_step(part: &mut [u8], at: usize, s: StepPiece, names: &[u8], count: usize)
-    requires { ⌜ (at + (63 + 2 * count) ≤ length (now part)) × ((2 + 2 * count ≤ length (now names)) × (count ≡ takenCount (s .note .taken) (now names))) ⌝ }
-    ensures { λ _. ⌜ now (part .exit) ≡ sets (now (part .entry)) at (stepBytes (stepFrom s (now (names .entry)))) ⌝ }
+fn put_step(part: &mut [u8], at: usize, s: StepPiece, note: NotePiece, names: &[u8], count: usize)
+    requires { ⌜ (at + (63 + 2 * count) ≤ length (now part)) × ((2 + 2 * count ≤ length (now names)) × (count ≡ takenCount (note .taken) (now names))) ⌝ }
+    ensures { λ _. ⌜ now (part .exit) ≡ sets (now (part .entry)) at (stepBytes (stepFrom s note (now (names .entry)))) ⌝ }
 {
     put_place(part, at, s);
     put_wrote(part, at + 17, s);
-    put_note(part, at + 34, s.note);
+    put_note(part, at + 34, note);
     put_names(part, at + 61, names, count);
 }
 
-// The same without a note, whatever note the piece has. Most steps have none, and zeros that are known beforehand cost less.
+// The same without a note. Most steps have none, and zeros that are known beforehand cost less.
 fn put_plain(part: &mut [u8], at: usize, s: StepPiece)
     requires { ⌜ at + 63 ≤ length (now part) ⌝ }
-    ensures { λ _. ⌜ now (part .exit) ≡ sets (now (part .entry)) at (stepBytes (stepFrom (plain s) [])) ⌝ }
+    ensures { λ _. ⌜ now (part .exit) ≡ sets (now (part .entry)) at (stepBytes (stepFrom s noneNoted [])) ⌝ }
 {
     put_place(part, at, s);
     put_wrote(part, at + 17, s);
@@ -363,24 +362,23 @@ fn taken_count(taken: bool, names: &[u8]) -> usize
 }
 
 // A step. The taken names stand in bytes as the record has them, behind their count.
-pub fn step(out: &mut [u8], at: u64, on: bool, s: StepPiece, names: &[u8]) -> u64
-    requires { ⌜ 2 + 2 * takenCount (s .note .taken) (now names) ≤ length (now names) ⌝ }
-    ensures { λ r. ⌜ Sent on (now (out .entry)) at (stepBytes (stepFrom s (now (names .entry)))) (now (out .exit)) r ⌝ }
+pub fn step(out: &mut [u8], at: u64, on: bool, s: StepPiece, note: NotePiece, names: &[u8]) -> u64
+    requires { ⌜ 2 + 2 * takenCount (note .taken) (now names) ≤ length (now names) ⌝ }
+    ensures { λ r. ⌜ Sent on (now (out .entry)) at (stepBytes (stepFrom s note (now (names .entry)))) (now (out .exit)) r ⌝ }
 {
-    let note = s.note;
     let count = taken_count(note.taken, names);
     let n = 63 + 2 * count as u64;
     let next = advance(at, n);
     if has_room(out, at, on, n) {
-        put_step(out, at as usize, s, names, count);
+        put_step(out, at as usize, s, note, names, count);
         return next;
     }
     next
 }
 
-// A step without a note, whatever note the piece has.
+// A step without a note.
 pub fn plain_step(out: &mut [u8], at: u64, on: bool, s: StepPiece) -> u64
-    ensures { λ r. ⌜ Sent on (now (out .entry)) at (stepBytes (stepFrom (plain s) [])) (now (out .exit)) r ⌝ }
+    ensures { λ r. ⌜ Sent on (now (out .entry)) at (stepBytes (stepFrom s noneNoted [])) (now (out .exit)) r ⌝ }
 {
     let next = advance(at, 63);
     if has_room(out, at, on, 63) {

@@ -36,10 +36,10 @@ use Rattle.hosting.specs.Routine.{Rooted}
 use Rattle.hosting.specs.Walking.{stopEnd}
 use Rattle.hosting.proofs.Running.{kept-on}
 use Rattle.hosting.proofs.Keeping.{kept-ready}
-use Rattle.operations.specs.Registers.{countsIn}
+use Rattle.operations.specs.Registers.{countsIn, withUnits}
 use Rattle.operations.specs.Going.{ReadyIn, Remains}
 use Rattle.operations.specs.Going as going
-use Rattle.operations.proofs.Registers.{counts-by, how-before, aside-aside}
+use Rattle.operations.proofs.Registers.{left-word, entered-word, steps-word, left-set, entered-set, steps-set, how-before, aside-aside}
 use Rattle.operations.proofs.Going.{done-goes, goes, halts, acts, told, remains}
 use Rattle.statements.specs.declared.terminators.Spot.{Spot}
 use Rattle.statements.specs.declared.terminators.Next.{Next}
@@ -206,57 +206,30 @@ abbrev countsWith : Counts → Tally → Counts
 countsWith a t = record { stored = a .stored; tally = t }
 
 module _ (a : Counts) {b : Bool} (some : 0 < a .tally .left) where
-  paid-block : b ≡ true
-      → countsWith a (record { recorded = a .tally .recorded; asked = a .tally .asked; left = a .tally .left - 1; entered = a .tally .entered + 1; steps = a .tally .steps }) ≡ paidCounts b a
+  paid-block : b ≡ true → withUnits (record { left = a .tally .left - 1; entered = a .tally .entered + 1; steps = a .tally .steps }) a ≡ paidCounts b a
   paid-block e = sym (ap (λ (z : Bool). paidCounts z a) e ∙ ap (countsWith a) (paid-with (a .tally .left) true (a .tally) some))
 
-  paid-statement : b ≡ false
-      → countsWith a (record { recorded = a .tally .recorded; asked = a .tally .asked; left = a .tally .left - 1; entered = a .tally .entered; steps = a .tally .steps + 1 }) ≡ paidCounts b a
+  paid-statement : b ≡ false → withUnits (record { left = a .tally .left - 1; entered = a .tally .entered; steps = a .tally .steps + 1 }) a ≡ paidCounts b a
   paid-statement e = sym (ap (λ (z : Bool). paidCounts z a) e ∙ ap (countsWith a) (paid-with (a .tally .left) false (a .tally) some))
 
 -- in the registers: one unit less is left, and one more is spent
+module _ {w w₁ : List ℕ} {n : ℕ} (is : n ≡ wordAt (registersPart w) 3) (less : SetsWord w 3 (n - 1) w₁) where
+  one-less : countsIn w₁ ≡ withUnits (record { left = countsIn w .tally .left - 1; entered = countsIn w .tally .entered; steps = countsIn w .tally .steps }) (countsIn w)
+  one-less = left-set less ∙ ap (λ (l : ℕ). withUnits (record { left = l - 1; entered = countsIn w .tally .entered; steps = countsIn w .tally .steps }) (countsIn w)) (is ∙ left-word w)
+
+  paid-on : {b : Bool} {w₂ : List ℕ} {j x : ℕ} → j < 6 → SetsWord w₁ j x w₂ → countsIn w₂ ≡ paidCounts b (countsIn w) → Pays b w w₂
+  paid-on l more e = record { aside = aside-aside (less .aside) (more .aside); how = how-before more l ∙ how-before less (omega arith); counts = e }
+
 module _ {w w₁ w₂ : List ℕ} {b : Bool} {n k : ℕ} (some : 0 < countsIn w .tally .left) (is : n ≡ wordAt (registersPart w) 3) (less : SetsWord w 3 (n - 1) w₁) where
   pub pays-block : b ≡ true → k ≡ wordAt (registersPart w₁) 4 → SetsWord w₁ 4 (k + 1) w₂ → Pays b w w₂
-  unfolding countsIn
-  pays-block e was more = record {
-    aside = aside-aside (less .aside) (more .aside);
-    how = how-before more (omega arith) ∙ how-before less (omega arith);
-    counts = counts-by w₂ (countsWith (countsIn w) (record {
-      recorded = countsIn w .tally .recorded;
-      asked = countsIn w .tally .asked;
-      left = countsIn w .tally .left - 1;
-      entered = countsIn w .tally .entered + 1;
-      steps = countsIn w .tally .steps;
-    })) (at 0 (omega arith)) (at 1 (omega arith)) (at 2 (omega arith))
-        (more .words 3 (omega arith) (λ q. absurd (omega (arith, q))) ∙ less .here ∙ ap (λ (i : ℕ). i - 1) is)
-        (more .here ∙ ap (λ (i : ℕ). i + 1) (was ∙ less .words 4 (omega arith) (λ q. absurd (omega (arith, q)))))
-        (more .words 5 (omega arith) (λ q. absurd (omega (arith, q))) ∙ less .words 5 (omega arith) (λ q. absurd (omega (arith, q))))
-        ∙ paid-block (countsIn w) some e;
-  }
-    where
-      at : (j : ℕ) → j < 3 → wordAt (registersPart w₂) j ≡ wordAt (registersPart w) j
-      at j l = more .words j (omega arith) (λ q. absurd (omega (arith, q, l))) ∙ less .words j (omega arith) (λ q. absurd (omega (arith, q, l)))
+  pays-block e was more = paid-on is less (omega arith) more (entered-set more
+      ∙ ap₂ (λ (a : Counts) (m : ℕ). withUnits (record { left = a .tally .left; entered = m + 1; steps = a .tally .steps }) a) (one-less is less) (was ∙ entered-word w₁ ∙ ap (λ (a : Counts). a .tally .entered) (one-less is less))
+      ∙ paid-block (countsIn w) some e)
 
   pub pays-statement : b ≡ false → k ≡ wordAt (registersPart w₁) 5 → SetsWord w₁ 5 (k + 1) w₂ → Pays b w w₂
-  unfolding countsIn
-  pays-statement e was more = record {
-    aside = aside-aside (less .aside) (more .aside);
-    how = how-before more (omega arith) ∙ how-before less (omega arith);
-    counts = counts-by w₂ (countsWith (countsIn w) (record {
-      recorded = countsIn w .tally .recorded;
-      asked = countsIn w .tally .asked;
-      left = countsIn w .tally .left - 1;
-      entered = countsIn w .tally .entered;
-      steps = countsIn w .tally .steps + 1;
-    })) (at 0 (omega arith)) (at 1 (omega arith)) (at 2 (omega arith))
-        (more .words 3 (omega arith) (λ q. absurd (omega (arith, q))) ∙ less .here ∙ ap (λ (i : ℕ). i - 1) is)
-        (more .words 4 (omega arith) (λ q. absurd (omega (arith, q))) ∙ less .words 4 (omega arith) (λ q. absurd (omega (arith, q))))
-        (more .here ∙ ap (λ (i : ℕ). i + 1) (was ∙ less .words 5 (omega arith) (λ q. absurd (omega (arith, q)))))
-        ∙ paid-statement (countsIn w) some e;
-  }
-    where
-      at : (j : ℕ) → j < 3 → wordAt (registersPart w₂) j ≡ wordAt (registersPart w) j
-      at j l = more .words j (omega arith) (λ q. absurd (omega (arith, q, l))) ∙ less .words j (omega arith) (λ q. absurd (omega (arith, q, l)))
+  pays-statement e was more = paid-on is less (omega arith) more (steps-set more
+      ∙ ap₂ (λ (a : Counts) (m : ℕ). withUnits (record { left = a .tally .left; entered = a .tally .entered; steps = m + 1 }) a) (one-less is less) (was ∙ steps-word w₁ ∙ ap (λ (a : Counts). a .tally .steps) (one-less is less))
+      ∙ paid-statement (countsIn w) some e)
 
 -- the workspace is in order after it
 module _ {w w′ : List ℕ} {b : Bool} (pays : Pays b w w′) where

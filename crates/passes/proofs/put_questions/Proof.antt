@@ -9,7 +9,8 @@ returns : tie.Need-returns
 returns c =
     let at-copy = c .before .before in
     let at-if1 = at-copy .before .before .before .before in
-    let start = at-if1 .before .before .before .before .before .before .before .before in
+    let to-start = at-if1 .before .before .before .before in
+    let start = to-start .before .before .before .before in
     questions-copied _ _ _ _ _ _ (start .pre .1 .1 .1 .0 .0) (start .pre .1 .1 .1 .0 .1) (at-if1 .if1 .taken) (start .pre .1 .1 .1 .1 .1) (at-copy .copy .ensures)
 
 pass-requires : tie.Need-pass-requires

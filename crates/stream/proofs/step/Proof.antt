@@ -12,7 +12,7 @@ put-step-requires : tie.Need-put-step-requires
 put-step-requires c κs =
     let r = c .before .before in
     let k = r .before .before .before in
-    let a = k .before .before .before .before .args in (
+    let a = k .before .before .before .args in (
       piece-room (a .on) (a .at) (63 + 2 * k .taken-count .result) (length (now (a .out))) (r .has-room .result) (r .has-room .ensures) (c .before .if1 .taken),
       (omega arith, k .taken-count .ensures .0),
     )

@@ -32,7 +32,8 @@ returns-2 c =
     let at-rounds = c .before .before .before .before .before .before in
     let at-enter = at-rounds .before .before .before .before .before in
     let at-if1 = at-enter .before .before in
-    let start = at-if1 .before .before .before .before .before .before .before .before .before in
+    let to-start = at-if1 .before .before .before .before .before in
+    let start = to-start .before .before .before .before in
     walks-all (at-enter .enter .ensures) (start .pre .1 .0) (at-if1 .if1 .left) (at-rounds .rounds .ensures) (c .counts .ensures)
 
 pub walk-spec : {M : Type 1} → statement M

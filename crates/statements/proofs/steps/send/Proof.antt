@@ -10,6 +10,9 @@ use Rattle.statements.proofs.steps.send.Tie as tie
 word-requires : tie.Need-word-requires
 word-requires c κs = search needs
 
+piece-requires : tie.Need-piece-requires
+piece-requires c κs = search needs
+
 takes-requires : tie.Need-takes-requires
 takes-requires c κs = search needs
 
@@ -19,14 +22,11 @@ name-count-requires c κs = search needs
 left-note-requires : tie.Need-left-note-requires
 left-note-requires c κs = search needs
 
-piece-requires : tie.Need-piece-requires
-piece-requires c κs = search needs
-
 names-requires : tie.Need-names-requires
 names-requires c κs =
-    let at-if1 = c .before .before .before .before in
+    let at-if1 = c .before .before .before in
     let at-takes = at-if1 .before in
-    let start = at-takes .before .before .before .before in
+    let start = at-takes .before .before .before .before .before in
     (start .pre .0, taken-noted (start .args .did .note) (pendingIn (notePart (now (start .args .ws)))) (sym (at-takes .takes .ensures) ∙ at-if1 .if1 .taken), start .pre .1)
 
 step-requires : tie.Need-step-requires
@@ -39,24 +39,17 @@ returns : tie.Need-returns
 returns c =
     let at-step = c .before .before in
     let at-names = at-step .before in
-    let at-piece = at-names .before .before in
-    let at-left-note = at-piece .before in
-    let at-name-count = at-left-note .before in
-    let at-if1 = at-name-count .before in
+    let at-left-note = at-names .before .before in
+    let at-if1 = at-left-note .before .before in
     let at-takes = at-if1 .before in
-    let at-word = at-takes .before in
+    let at-word = at-takes .before .before in
     let start = at-word .before .before .before in
-    sent-on (now (start .args .ws)) (at-word .word .ensures)
-    (sent-left _ (start .args .site) (start .args .did) _ (pendingIn (notePart (now (start .args .ws)))) (at-takes .takes .ensures) (at-piece .piece .ensures) (at-left-note .left-note .ensures) (at-name-count .name-count .ensures) (at-names .names .ensures) (start .pre .1) (at-if1 .if1 .taken) (pending-below (notePart (now (start .args .ws)))) (at-step .step .ensures))
+    let w = now (start .args .ws) in
+    sent-on w (at-word .word .ensures)
+    (sent-left (start .args .site) (start .args .did) _ (pendingIn (notePart w)) (at-takes .takes .ensures) (at-takes .before .piece .ensures) _ (at-left-note .left-note .ensures) (at-left-note .before .name-count .ensures) (at-names .names .ensures) (start .pre .1) (at-if1 .if1 .taken) (pending-below (notePart w)) (at-step .step .ensures))
 
 is-nothing-requires : tie.Need-is-nothing-requires
 is-nothing-requires c κs = search needs
-
-no-note-requires : tie.Need-no-note-requires
-no-note-requires c κs = search needs
-
-piece-requires-2 : tie.Need-piece-requires-2
-piece-requires-2 c κs = search needs
 
 plain-step-requires : tie.Need-plain-step-requires
 plain-step-requires c κs = search needs
@@ -66,19 +59,17 @@ same-length-2 c = search needs
 
 returns-2 : tie.Need-returns-2
 returns-2 c =
-    let at-piece = c .before .before .before .before in
-    let at-if2 = at-piece .before .before in
+    let at-if2 = c .before .before .before .before in
     let at-if1 = at-if2 .before .before in
-    let at-word = at-if1 .before .before in
+    let at-takes = at-if1 .before in
+    let at-word = at-takes .before .before in
     let start = at-word .before .before .before in
-    sent-on (now (start .args .ws)) (at-word .word .ensures)
-    (sent-plain (start .args .site) (start .args .did) _ _ (pendingIn (notePart (now (start .args .ws)))) (at-if1 .before .takes .ensures) (at-piece .piece2 .ensures) (at-if1 .if1 .left) (at-if2 .before .is-nothing .ensures) (at-if2 .if2 .taken) (c .before .before .plain-step .ensures))
+    let w = now (start .args .ws) in
+    sent-on w (at-word .word .ensures)
+    (sent-plain (start .args .site) (start .args .did) _ (pendingIn (notePart w)) (at-takes .takes .ensures) (at-takes .before .piece .ensures) (at-if1 .if1 .left) (at-if2 .before .is-nothing .ensures) (at-if2 .if2 .taken) (c .before .before .plain-step .ensures))
 
 own-note-requires : tie.Need-own-note-requires
 own-note-requires c κs = search needs
-
-piece-requires-3 : tie.Need-piece-requires-3
-piece-requires-3 c κs = search needs
 
 step-requires-2 : tie.Need-step-requires-2
 step-requires-2 c κs = search (needs, names-none)
@@ -88,34 +79,33 @@ same-length-3 c = search needs
 
 returns-3 : tie.Need-returns-3
 returns-3 c =
-    let at-piece = c .before .before .before .before in
-    let at-if1 = at-piece .before .before .before .before in
-    let at-word = at-if1 .before .before in
+    let at-own-note = c .before .before .before in
+    let at-if1 = at-own-note .before .before .before .before in
+    let at-takes = at-if1 .before in
+    let at-word = at-takes .before .before in
     let start = at-word .before .before .before in
-    sent-on (now (start .args .ws)) (at-word .word .ensures)
-    (sent-own _ (start .args .site) (start .args .did) _ (pendingIn (notePart (now (start .args .ws)))) (at-if1 .before .takes .ensures) (at-piece .piece3 .ensures) (at-if1 .if1 .left) (at-piece .before .own-note .ensures) (c .before .before .step2 .ensures))
+    let w = now (start .args .ws) in
+    sent-on w (at-word .word .ensures)
+    (sent-own (start .args .site) (start .args .did) _ (pendingIn (notePart w)) (at-takes .takes .ensures) (at-takes .before .piece .ensures) _ (at-if1 .if1 .left) (at-own-note .own-note .ensures) (c .before .before .step2 .ensures))
 
 pub send-spec : {M : Type 1} → statement M
 send-spec =
     tie.close
     (tie.spec
     word-requires
+    piece-requires
     takes-requires
     name-count-requires
     left-note-requires
-    piece-requires
     names-requires
     step-requires
     same-length
     returns
     is-nothing-requires
-    no-note-requires
-    piece-requires-2
     plain-step-requires
     same-length-2
     returns-2
     own-note-requires
-    piece-requires-3
     step-requires-2
     same-length-3
     returns-3)
