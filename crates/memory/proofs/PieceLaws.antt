@@ -1,7 +1,7 @@
 -- The bytes of entries that are moved to other places, or stay. Assumes nothing.
-use mathlib.Core.Path.{_≡_, ap, _∙_}
+use mathlib.Core.Path.{_≡_, refl, ap, _∙_}
 use mathlib.Core.List.{List}
-use Prim.Native.Nat.{ℕ, _+_, _*_, _≤_, _<_}
+use Prim.Native.Nat.{ℕ, zero, suc, _+_, _*_, _≤_, _<_}
 use native.Mathlib.Omega.{arith}
 use lib.ListN.{length, drop, length-drop}
 use lib.Seq.{length-take-le, sets, length-sets}
@@ -25,6 +25,12 @@ piece-above s vs i m j n l h = part-above s vs (i * entrySize) (j * entrySize) (
 pub piece-below : (s vs : List ℕ) (i j n : ℕ) → (j + n) * entrySize ≤ i → piece (sets s i vs) j n ≡ piece s j n
 unfolding piece
 piece-below s vs i j n h = part-below s vs i (j * entrySize) (n * entrySize) (omega arith)
+
+-- of no entries it does not matter where they are
+pub piece-stays : (s : List ℕ) (i j n : ℕ) → (0 < n → i ≡ j) → piece s i n ≡ piece s j n
+unfolding piece
+piece-stays s i j zero h = refl
+piece-stays s i j (suc n) h = ap (λ (x : ℕ). piece s x (suc n)) (h (omega arith))
 
 module _ (s t u : List ℕ) (l r : Move) (fit : SlideBoth (length s) l r) where
   abbrev goes : List ℕ → List ℕ → Move → Type 0

@@ -16,13 +16,13 @@ use Rattle.memory.specs.declared.Stored.the-variants.{Count, Full}
 use Rattle.memory.specs.declared.row.Span.{Span}
 use Rattle.memory.specs.Overlay.{Overlay, Cell, store, stores, runOf, rank, Ascending}
 use Rattle.memory.specs.Entries.{entry, entrySize, limit, rowOf, IsRow, firstAt, partSize, first, entries, Sorted, piece, overwritten}
-use Rattle.memory.specs.Post.{Holds, Stores, StoresAll, Spans, Spliced}
+use Rattle.memory.specs.Post.{Holds, Stores, StoresAll, Spans, Spliced, Beside}
 use Rattle.memory.proofs.OverlayLaws.{rank-most, stores-one, stores-run, ascending-stores, length-stores}
 use Rattle.memory.proofs.EntryLaws.{length-writes, reads-add, reads-take, reads-front, take-reads, drop-reads}
 use Rattle.memory.proofs.RowLaws.{entry-sized, entry-sound, Fits}
 use Rattle.memory.proofs.MoveLaws.{part-at, part-above}
 use Rattle.memory.proofs.PartLaws.{first-some, first-said, length-entries}
-use Rattle.memory.proofs.PieceLaws.{piece-at, piece-above, piece-below}
+use Rattle.memory.proofs.PieceLaws.{piece-at, piece-above, piece-below, piece-stays}
 use Rattle.memory.proofs.WriteLaws.{overwritten-is}
 use Rattle.memory.proofs.SearchLaws.{each-there}
 
@@ -196,6 +196,17 @@ spliced s s₁ s₂ s₃ n q r a v b w f t ef fits l₁ left right e₂ e₃ =
       pieces = λ j k h. ap (λ (x : List ℕ). piece x j k) e₃ ∙ said-past s₂ t j k (omega arith) ∙ ap (λ (x : List ℕ). piece x j k) e₂;
       at-first = first-some s₃ (r .at + b + (n - r .end)) t (λ e. omega arith) (said s₂ t (omega arith) (omega arith) ∙ ap (λ (x : List ℕ). numberAt x firstAt 2) (sym e₃));
     })
+
+-- the entries on either side stay where they are
+pub put-beside : (s s₁ s₂ : List ℕ) (n : ℕ) → Sorted s n → (r : Span) (a v b t : ℕ) → Spliced (entries s n) n r a b → Beside n (first s n) r b t
+    → s₁ ≡ sets s ((t + r .at) * entrySize) (written a v b) → s₂ ≡ putNumber s₁ firstAt 2 t → Holds (stores a (le b v) (entries s n)) s₂ (n + b)
+put-beside s s₁ s₂ n q r a v b t w h e₁ e₂ =
+    let before : r .at ≤ r .end = w .span .before in
+    let within : r .end ≤ n = w .span .within in
+    let next : r .at + b + (n - r .end) ≡ n + b = omega (arith, h .none-there) in
+    subst (Holds (stores a (le b v) (entries s n)) s₂) next
+    (spliced s s s₁ s₂ n q r a v b w (first s n) t refl (omega (arith, h .fits)) refl
+    (piece-stays s t (first s n) (r .at) (h .left)) (piece-stays s (t + r .at + b) (first s n + r .end) (n - r .end) (λ l. h .right (omega arith))) e₁ e₂)
 
 -- each address of the run has its entry, whose byte is replaced
 pub replaced : (s s₁ : List ℕ) (n : ℕ) (q : Sorted s n) → Bytes s → (r : Span) (a v b : ℕ) → Spans (entries s n) n r a b → 0 < b → a + b ≤ 2 ^ 64 → r .end - r .at ≡ b → (f : ℕ) → f ≡ first s n

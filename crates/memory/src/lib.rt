@@ -7,8 +7,8 @@ ghost use lib.Seq.{sets};
 ghost use Rattle.layout.specs.Number.{le};
 ghost use Rattle.layout.specs.Format.{writes};
 ghost use Rattle.memory.specs.Overlay.{toByte, find as findIn, store as storeIn, stores, runOf, load};
-ghost use Rattle.memory.specs.Entries.{Sorted, entry, entries, entrySize, limit, first, piece, overwritten, memoryBody};
-ghost use Rattle.memory.specs.Post.{foundAs, loadedAs, Holds, Stores, StoresAll, SlideBoth, Slid, Spans, Spliced};
+ghost use Rattle.memory.specs.Entries.{Sorted, entry, entries, entrySize, limit, first as firstIn, piece, overwritten, memoryBody};
+ghost use Rattle.memory.specs.Post.{foundAs, loadedAs, Holds, Stores, StoresAll, SlideBoth, Slid, Spans, Spliced, Beside};
 
 mod row;
 mod search;
@@ -76,7 +76,7 @@ struct Move {
 // The place of the first entry.
 fn first_of(part: &[u8], count: usize) -> usize
     requires { ⌜ Sorted (now part) count ⌝ }
-    ensures { λ r. ⌜ r ≡ first (now (part .entry)) count ⌝ }
+    ensures { λ r. ⌜ r ≡ firstIn (now (part .entry)) count ⌝ }
 {
     if count == 0 {
         return 0;
@@ -310,6 +310,55 @@ fn insert(
     Stored::Count(next)
 }
 
+// The bytes of a store that has all entries on one side, where they stay. The first entry is then at a place that is known.
+fn put_beside(
+    part: &mut [u8],
+    count: usize,
+    span: Span,
+    to: usize,
+    address: u64,
+    number: u64,
+    bytes: usize,
+)
+    requires { ⌜ Sorted (now part) count × Spliced (entries (now part) count) count span address bytes ⌝ }
+    requires { ⌜ Beside count (firstIn (now part) count) span bytes to ⌝ }
+    ensures { λ _. ⌜ Holds (stores address (le bytes number) (entries (now (part .entry)) count)) (now (part .exit)) (count + bytes) ⌝ }
+{
+    put_run(part, to + span.at, address, number, bytes);
+    layout::put16(part, FIRST, to as u64);
+}
+
+// The bytes of a store, whose entries are known, if there is room. Where it comes after all entries or before all of them, and places are left on that side,
+// no entry moves.
+fn add(
+    part: &mut [u8],
+    count: usize,
+    first: usize,
+    span: Span,
+    address: u64,
+    number: u64,
+    bytes: usize,
+) -> Stored
+    requires { ⌜ Sorted (now part) count × Spans (entries (now part) count) count span address bytes ⌝ }
+    requires { ⌜ (0 < bytes) × (bytes ≤ 8) × (address + bytes ≤ 2 ^ 64) ⌝ }
+    requires { ⌜ first ≡ firstIn (now part) count ⌝ }
+    ensures { λ r. ⌜ Stores (stores address (le bytes number) (entries (now (part .entry)) count)) (now (part .entry)) (now (part .exit)) r ⌝ }
+{
+    if span.at == count {
+        if first + count + bytes <= LIMIT {
+            put_beside(part, count, span, first, address, number, bytes);
+            return Stored::Count(count + bytes);
+        }
+    }
+    if span.end == 0 {
+        if bytes <= first {
+            put_beside(part, count, span, first - bytes, address, number, bytes);
+            return Stored::Count(count + bytes);
+        }
+    }
+    insert(part, count, span, address, number, bytes)
+}
+
 // A byte stored at an address.
 pub fn store(part: &mut [u8], count: usize, address: u64, byte: u8) -> Stored
     requires { ⌜ Sorted (now part) count ⌝ }
@@ -325,8 +374,8 @@ pub fn store(part: &mut [u8], count: usize, address: u64, byte: u8) -> Stored
     insert(part, count, span, address, byte as u64, 1)
 }
 
-// The low bytes of a number stored from an address on, where addresses do not wrap: one search, then in their place if each has one, else one move of the
-// entries on one side.
+// The low bytes of a number stored from an address on, where addresses do not wrap: one search, then in their place if each has one, else beside all entries
+// or after one move of those on one side.
 fn store_run(part: &mut [u8], count: usize, address: u64, number: u64, bytes: usize) -> Stored
     requires { ⌜ Sorted (now part) count ⌝ }
     requires { ⌜ (0 < bytes) × (bytes ≤ 8) × (address + bytes ≤ 2 ^ 64) ⌝ }
@@ -339,7 +388,7 @@ fn store_run(part: &mut [u8], count: usize, address: u64, number: u64, bytes: us
         overwrite(part, first + span.at, number, bytes);
         return Stored::Count(count);
     }
-    insert(part, count, span, address, number, bytes)
+    add(part, count, first, span, address, number, bytes)
 }
 
 // The low bytes of a number stored one by one, as addresses wrap.

@@ -51,13 +51,13 @@ returns c =
     replaced (now (x .args .part)) (u .overwrite .last .0) (x .args .count) (x .pre .0) all (s .span-of .result) (x .args .address) (x .args .number) (x .args .bytes) w (x .pre .1 .0) (x .pre .1 .2) (i .if1 .taken)
     (f .first-of .result) (f .first-of .ensures) (u .overwrite .ensures)
 
-insert-requires : tie.Need-insert-requires
-insert-requires c κs =
+add-requires : tie.Need-add-requires
+add-requires c κs =
     let s = c .before .before .before in
     let f = s .before .before .before in
     let x = f .before .before .before in
     let w = lent-spans (now (x .args .part)) (x .args .count) (f .first-of .result) (f .first-of .ensures) (s .span-of .result) (x .args .address) (x .args .bytes) (s .span-of .ensures) in
-    ((x .pre .0, w), x .pre .1)
+    ((x .pre .0, w), (x .pre .1, f .first-of .ensures))
 
 same-length-2 : tie.Need-same-length-2
 same-length-2 c = search needs
@@ -80,6 +80,6 @@ store-run-spec =
     overwrite-requires
     same-length
     returns
-    insert-requires
+    add-requires
     same-length-2
     returns-2)
