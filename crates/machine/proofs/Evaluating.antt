@@ -23,6 +23,8 @@ use Rattle.definition.specs.Evaluate.{look, looks, evalAs, chosen, readVariable
 use Rattle.workspace.specs.Parts.{tables, registersPart}
 use Rattle.workspace.specs.Registers.{valueAt}
 use Rattle.workspace.specs.Types.{typeAt}
+use Rattle.workspace.specs.declared.variables.Slot.{Slot}
+use Rattle.workspace.specs.declared.variables.Slot.the-variants.{Set}
 use Rattle.hosting.specs.declared.How.{How}
 use Rattle.hosting.specs.declared.Short.{Short}
 use Rattle.hosting.specs.Scene.{Given, given, Scene}
@@ -73,16 +75,20 @@ module _ {b s r : List ℕ} {n : ℕ} {w₀ o₀ : List ℕ} {q : Bool} {w o : L
   pub ready-on : ReadyIn (given b s r) w₀ → not q ≡ false → Fine b n → ReadyIn (given b s r) w
   ready-on p e f = ready-after (ended-on e (f .spells)) p
 
--- where a value is at hand; and where it is not, what is done then
-module _ {b s r : List ℕ} {n : ℕ} {w : List ℕ} {q : Bool} {w₁ : List ℕ} (a : AtHand b n w q w₁) where
-  pub at-hand-evals : {o : List ℕ} → q ≡ true → Evaluates b s r n w o true w₁ o
-  at-hand-evals {o} e = record { goes = a .yes e (given b s r) o }
+-- the tree at node n is evaluated, and its value is v, which need not be in the registers
+pub record Valued (b s r : List ℕ) (n : ℕ) (w₀ o₀ : List ℕ) (v : Val) (w o : List ℕ) : Type 0 where
+  pub goes : (t : Tree) → Stands b n t → Goes (given b s r) (λ x. eval (look (x .env) t)) w₀ o₀ (ended v) w o
 
-  pub else-ready : q ≡ false → ReadyIn (given b s r) w → ReadyIn (given b s r) w₁
-  else-ready e p = subst (ReadyIn (given b s r)) (sym (a .no e)) p
+pub valued-at-hand : {b s r : List ℕ} {n : ℕ} {w o : List ℕ} {slot : Slot} {v : Val} → AtHand b n w slot → slot ≡ Set v → Valued b s r n w o v w o
+valued-at-hand {b} {s} {r} {o = o} a e = record { goes = a .goes _ e (given b s r) o }
 
-  pub else-evals : {o : List ℕ} {p : Bool} {w′ o′ : List ℕ} → q ≡ false → Evaluates b s r n w₁ o p w′ o′ → Evaluates b s r n w o p w′ o′
-  else-evals {o} {p} {w′} {o′} e ev = subst (λ (z : List ℕ). Evaluates b s r n z o p w′ o′) (a .no e) ev
+pub valued-as : {b s r : List ℕ} {n : ℕ} {w₀ o₀ : List ℕ} {q : Bool} {w o : List ℕ} {v : Val} → Evaluates b s r n w₀ o₀ q w o → not q ≡ false → v ≡ valueAt (registersPart w) 0
+    → Valued b s r n w₀ o₀ v w o
+valued-as ev e p = record { goes = λ t h. ended-as ev e p h }
+
+-- the value is put in the registers
+pub at-hand-evals : {b s r : List ℕ} {n : ℕ} {w o : List ℕ} {slot : Slot} {v : Val} {q : Bool} {w′ : List ℕ} → AtHand b n w slot → slot ≡ Set v → Gives w v q w′ → Evaluates b s r n w o q w′ o
+at-hand-evals {w′ = w′} a e g = record { goes = λ t h. beside-after (g .beside) (told (by-true (shortIn w′) (g .yes) (g .value)) (a .goes _ e _ _ t h)) }
 
 -- a node told by an equal number
 pub stands-at : {b : List ℕ} {i j : ℕ} {t : Tree} → j ≡ i → Stands b i t → Stands b j t
@@ -209,29 +215,30 @@ answers : {g : How → Given} {w o : List ℕ} (z : Answer) → Goes g (λ x. an
 answers (Value u) = done-goes (λ _. u) (λ h x m. refl)
 answers DivisionByZero = fail-goes
 
-module _ {b s r : List ℕ} {n : ℕ} {w₀ o₀ : List ℕ} {p : Bool} {w₁ o₁ : List ℕ} (k : kindOf b n ≡ 12) (ea : Evaluates b s r (n + 1) w₀ o₀ p w₁ o₁) where
-  pub binary-short : not p ≡ true → Evaluates b s r n w₀ o₀ false w₁ o₁
+module _ {b s r : List ℕ} {n : ℕ} {w₀ o₀ : List ℕ} (k : kindOf b n ≡ 12) where
+  pub binary-short : {p : Bool} {w₁ o₁ : List ℕ} → Evaluates b s r (n + 1) w₀ o₀ p w₁ o₁ → not p ≡ true → Evaluates b s r n w₀ o₀ false w₁ o₁
   unfolding evalAs look kid
-  binary-short ep = by 12 k (λ ts h. go ts h)
+  binary-short {w₁ = w₁} {o₁ = o₁} ea ep = by 12 k (λ ts h. go ts h)
     where
       go : (ts : Trees) → Shape b 12 n ts → Goes (given b s r) (λ x. actAs b x 12 n ts) w₀ o₀ (endIn false w₁) w₁ o₁
       go ts (a-binary h i e) = halts _ _ (short-on ea ep h)
 
-  module _ {m : ℕ} {q : Bool} {w₂ o₂ : List ℕ} (ep : not p ≡ false) (em : m ≡ next b (n + 1)) (eb : Evaluates b s r m w₁ o₁ q w₂ o₂) where
-    pub binary-short-right : not q ≡ true → Evaluates b s r n w₀ o₀ false w₂ o₂
+  module _ {l : Val} {w₁ o₁ : List ℕ} (ea : Valued b s r (n + 1) w₀ o₀ l w₁ o₁) where
+    pub binary-short-right : {q : Bool} {w₂ o₂ : List ℕ} → Evaluates b s r (next b (n + 1)) w₁ o₁ q w₂ o₂ → not q ≡ true → Evaluates b s r n w₀ o₀ false w₂ o₂
     unfolding evalAs look kid
-    binary-short-right eq = by 12 k (λ ts h. go ts h)
+    binary-short-right {w₂ = w₂} {o₂ = o₂} eb eq = by 12 k (λ ts h. go ts h)
       where
         go : (ts : Trees) → Shape b 12 n ts → Goes (given b s r) (λ x. actAs b x 12 n ts) w₀ o₀ (endIn false w₂) w₂ o₂
-        go ts (a-binary h i e) = goes _ (ended-on ea ep h) (halts _ _ (short-on eb eq (stands-at em i)))
+        go ts (a-binary h i e) = goes _ (ea .goes _ h) (halts _ _ (short-on eb eq i))
 
-    pub binary-evals : {l : Val} {u : Bool} {w′ : List ℕ} → not q ≡ false → l ≡ valueAt (registersPart w₁) 0 → Answers w₂ (binaryOf (operatorOf (flagOf b n)) l (resultIn w₂)) u w′ → Evaluates b s r n w₀ o₀ u w′ o₂
+    pub binary-evals : {v : Val} {w₂ o₂ : List ℕ} {u : Bool} {w′ : List ℕ} → Valued b s r (next b (n + 1)) w₁ o₁ v w₂ o₂ → Answers w₂ (binaryOf (operatorOf (flagOf b n)) l v) u w′
+        → Evaluates b s r n w₀ o₀ u w′ o₂
     unfolding evalAs look kid
-    binary-evals {l} {u} {w′} eq el e = by 12 k (λ ts h. go ts h)
+    binary-evals {v} {w₂} {o₂} {u} {w′} eb e = by 12 k (λ ts h. go ts h)
       where
         go : (ts : Trees) → Shape b 12 n ts → Goes (given b s r) (λ x. actAs b x 12 n ts) w₀ o₀ (endIn u w′) w′ o₂
-        go ts (a-binary h i _) = goes _ (ended-as ea ep el h) (goes _ (ended-on eb eq (stands-at em i))
-            (beside-after (e .beside) (told (e .ends) (answers (binaryOf (operatorOf (flagOf b n)) l (resultIn w₂))))))
+        go ts (a-binary h i _) = goes _ (ea .goes _ h) (goes _ (eb .goes _ i)
+            (beside-after (e .beside) (told (e .ends) (answers (binaryOf (operatorOf (flagOf b n)) l v)))))
 
 -- ---- Return
 

@@ -1,11 +1,10 @@
 -- How far a loop over the operands of a Ternary or of a Binary has come: which are evaluated, and what is kept of their values. Assumes nothing.
-use mathlib.Core.Path.{_≡_, refl, sym, _∙_, subst}
-use mathlib.Core.Bool.{Bool, true, false, not, true≢false, false≢true}
+use mathlib.Core.Path.{_≡_, refl, sym, subst}
+use mathlib.Core.Bool.{Bool, true, false, not}
 use mathlib.Core.List.{List}
 use Prim.Native.Nat.{ℕ, _+_, _-_, _<_}
 use native.Mathlib.Omega.{arith}
-use lib.Dec.{eqb}
-use borrow.Author.Tests.{eqb-true, eqb-false, not-true, not-false}
+use borrow.Author.Tests.{not-false}
 use Rattle.value.specs.declared.Val.{Val}
 use Rattle.value.specs.Operators.{binaryOf, operatorOf}
 use Rattle.files.specs.Nodes.{kindOf, flagOf}
@@ -13,15 +12,18 @@ use Rattle.files.specs.Spells.{next}
 use Rattle.definition.specs.Evaluate.{chosen}
 use Rattle.workspace.specs.Parts.{registersPart}
 use Rattle.workspace.specs.Registers.{valueAt}
+use Rattle.workspace.specs.declared.variables.Slot.{Slot}
+use Rattle.workspace.specs.declared.variables.Slot.the-variants.{Set}
 use Rattle.hosting.specs.Scene.{given}
 use Rattle.hosting.specs.Stands.{Fine}
 use Rattle.operations.specs.Registers.{resultIn}
 use Rattle.operations.specs.Going.{ReadyIn}
 use Rattle.operations.specs.Steps.{Gives, Answers, AtHand}
 use Rattle.machine.specs.Post.{Evaluates}
+use Rattle.operations.proofs.Going.{ready-after}
 use Rattle.hosting.proofs.Shapes.{ternary-first, ternary-second, ternary-third, binary-left, binary-right}
-use Rattle.machine.proofs.Ranks.{left, first-falls, second-falls, third-falls, next-past}
-use Rattle.machine.proofs.Evaluating.{at-hand-evals, else-evals, ready-on, ternary-evals, ternary-short, ternary-short-second, ternary-short-third, binary-evals, binary-short, binary-short-right}
+use Rattle.machine.proofs.Ranks.{left, first-falls, second-falls, third-falls}
+use Rattle.machine.proofs.Evaluating.{Valued, valued-at-hand, valued-as, ready-on, ternary-evals, ternary-short, ternary-short-second, ternary-short-third, binary-evals, binary-short, binary-short-right}
 
 evaluated : {b s r : List ℕ} {i : ℕ} {w o : List ℕ} {p : Bool} {w′ o′ : List ℕ} → not p ≡ false → Evaluates b s r i w o p w′ o′ → Evaluates b s r i w o true w′ o′
 evaluated {b} {s} {r} {i} {w} {o} {p} {w′} {o′} e ev = subst (λ (q : Bool). Evaluates b s r i w o q w′ o′) (not-false p e) ev
@@ -106,126 +108,82 @@ module _ {b s r : List ℕ} {n : ℕ} {w₀ o₀ : List ℕ} {k i : ℕ} {x y : 
 
 -- ---- the operands of a Binary
 
--- whether one is still to be evaluated, at node i; l is the left one's value, where it is evaluated
-pub data Duo (b s r : List ℕ) (n : ℕ) (w₀ o₀ : List ℕ) : Bool → ℕ → Val → List ℕ → List ℕ → Type 0 where
-  at-left : {l : Val} → Duo b s r n w₀ o₀ true (n + 1) l w₀ o₀
-  at-right : {w o : List ℕ} → Evaluates b s r (n + 1) w₀ o₀ true w o → Duo b s r n w₀ o₀ true (next b (n + 1)) (valueAt (registersPart w) 0) w o
-  past-both : {i : ℕ} {w₁ o₁ w o : List ℕ} → Evaluates b s r (n + 1) w₀ o₀ true w₁ o₁ → Evaluates b s r (next b (n + 1)) w₁ o₁ true w o
-      → Duo b s r n w₀ o₀ false i (valueAt (registersPart w₁) 0) w o
+-- k of them are left, the next is at node i; y is the last value, and x the one before it
+pub data Duo (b s r : List ℕ) (n : ℕ) (w₀ o₀ : List ℕ) : ℕ → ℕ → Val → Val → List ℕ → List ℕ → Type 0 where
+  at-left : {x y : Val} → Duo b s r n w₀ o₀ 2 (n + 1) x y w₀ o₀
+  at-right : {x y : Val} {w o : List ℕ} → Valued b s r (n + 1) w₀ o₀ y w o → Duo b s r n w₀ o₀ 1 (next b (n + 1)) x y w o
+  past-both : {i : ℕ} {x y : Val} {w₁ o₁ w o : List ℕ} → Valued b s r (n + 1) w₀ o₀ x w₁ o₁ → Valued b s r (next b (n + 1)) w₁ o₁ y w o → Duo b s r n w₀ o₀ 0 i x y w o
 
--- the right one is at node m
-pub record BinarySoFar (b s r : List ℕ) (n m : ℕ) (w₀ o₀ : List ℕ) (more : Bool) (i : ℕ) (l : Val) (w o : List ℕ) : Type 0 where
+pub record BinarySoFar (b s r : List ℕ) (n : ℕ) (w₀ o₀ : List ℕ) (k i : ℕ) (x y : Val) (w o : List ℕ) : Type 0 where
   pub kind : kindOf b n ≡ 12
   pub fine : Fine b n
-  pub right : m ≡ next b (n + 1)
   pub ready : ReadyIn (given b s r) w
-  pub duo : Duo b s r n w₀ o₀ more i l w o
+  pub duo : Duo b s r n w₀ o₀ k i x y w o
 
-pub binary-start : {b s r : List ℕ} {n m : ℕ} {w o : List ℕ} {l : Val} → kindOf b n ≡ 12 → Fine b n → m ≡ next b (n + 1) → ReadyIn (given b s r) w → BinarySoFar b s r n m w o true (n + 1) l w o
-binary-start e f em p = record { kind = e; fine = f; right = em; ready = p; duo = at-left }
-
--- the rounds that are left
-abbrev pub rounds : Bool → ℕ → ℕ → ℕ
-rounds true m i = 1 + (m - i)
-rounds false m i = 0
+pub binary-start : {b s r : List ℕ} {n : ℕ} {w o : List ℕ} {x y : Val} → kindOf b n ≡ 12 → Fine b n → ReadyIn (given b s r) w → BinarySoFar b s r n w o 2 (n + 1) x y w o
+binary-start e f p = record { kind = e; fine = f; ready = p; duo = at-left }
 
 module _ {b s r : List ℕ} {n : ℕ} {w₀ o₀ : List ℕ} where
-  duo-fine : {more : Bool} {i : ℕ} {l : Val} {w o : List ℕ} → Duo b s r n w₀ o₀ more i l w o → more ≡ true → kindOf b n ≡ 12 → Fine b n → Fine b i
-  duo-fine at-left em e f = binary-left e f
-  duo-fine (at-right ea) em e f = binary-right e f refl
-  duo-fine (past-both ea eb) em e f = absurd (false≢true em)
+  duo-fine : {k i : ℕ} {x y : Val} {w o : List ℕ} → Duo b s r n w₀ o₀ k i x y w o → (k ≡ 0 → ⊥) → kindOf b n ≡ 12 → Fine b n → Fine b i
+  duo-fine at-left ne e f = binary-left e f
+  duo-fine (at-right ea) ne e f = binary-right e f refl
+  duo-fine (past-both ea eb) ne e f = absurd (ne refl)
 
-  duo-falls : {more : Bool} {i : ℕ} {l : Val} {w o : List ℕ} {t : ℕ} → Duo b s r n w₀ o₀ more i l w o → more ≡ true → left b n 0 ≡ t → Fine b n → left b i 3 < t
-  duo-falls at-left em e f = first-falls b n 0 3 e f (omega arith)
-  duo-falls (at-right ea) em e f = second-falls b n 0 3 e f refl (omega arith)
-  duo-falls (past-both ea eb) em e f = absurd (false≢true em)
+  duo-falls : {k i : ℕ} {x y : Val} {w o : List ℕ} {t : ℕ} → Duo b s r n w₀ o₀ k i x y w o → (k ≡ 0 → ⊥) → left b n 0 ≡ t → Fine b n → left b i 3 < t
+  duo-falls at-left ne e f = first-falls b n 0 3 e f (omega arith)
+  duo-falls (at-right ea) ne e f = second-falls b n 0 3 e f refl (omega arith)
+  duo-falls (past-both ea eb) ne e f = absurd (ne refl)
 
-  duo-short : {more : Bool} {i : ℕ} {l : Val} {w o : List ℕ} {p : Bool} {w′ o′ : List ℕ} → Duo b s r n w₀ o₀ more i l w o → more ≡ true → kindOf b n ≡ 12
+  duo-short : {k i : ℕ} {x y : Val} {w o : List ℕ} {p : Bool} {w′ o′ : List ℕ} → Duo b s r n w₀ o₀ k i x y w o → (k ≡ 0 → ⊥) → kindOf b n ≡ 12
       → Evaluates b s r i w o p w′ o′ → not p ≡ true → Evaluates b s r n w₀ o₀ false w′ o′
-  duo-short at-left em e ev ep = binary-short e ev ep
-  duo-short (at-right ea) em e ev ep = binary-short-right e ea refl refl ev ep
-  duo-short (past-both ea eb) em e ev ep = absurd (false≢true em)
+  duo-short at-left ne e ev ep = binary-short e ev ep
+  duo-short (at-right ea) ne e ev ep = binary-short-right e ea ev ep
+  duo-short (past-both ea eb) ne e ev ep = absurd (ne refl)
 
-  duo-on : {more : Bool} {i : ℕ} {l : Val} {w o w′ o′ : List ℕ} → Duo b s r n w₀ o₀ more i l w o → more ≡ true → (i ≡ next b (n + 1) → ⊥) → Evaluates b s r i w o true w′ o′
-      → Duo b s r n w₀ o₀ true (next b (n + 1)) (valueAt (registersPart w′) 0) w′ o′
-  duo-on at-left em ne ev = at-right ev
-  duo-on (at-right ea) em ne ev = absurd (ne refl)
-  duo-on (past-both ea eb) em ne ev = absurd (false≢true em)
+  duo-on : {k i : ℕ} {x y : Val} {w o : List ℕ} {v : Val} {w′ o′ : List ℕ} → Duo b s r n w₀ o₀ k i x y w o → (k ≡ 0 → ⊥) → Valued b s r i w o v w′ o′
+      → Duo b s r n w₀ o₀ (k - 1) (next b (n + 1)) y v w′ o′
+  duo-on at-left ne ev = at-right ev
+  duo-on (at-right ea) ne ev = past-both ea ev
+  duo-on (past-both ea eb) ne ev = absurd (ne refl)
 
-  -- the left operand is before the right one
-  duo-last : {more : Bool} {i : ℕ} {l : Val} {w o w′ o′ : List ℕ} → Duo b s r n w₀ o₀ more i l w o → more ≡ true → Fine b (n + 1) → i ≡ next b (n + 1) → Evaluates b s r i w o true w′ o′
-      → Duo b s r n w₀ o₀ false i l w′ o′
-  duo-last at-left em f d ev = absurd (omega (arith, next-past f refl, d))
-  duo-last (at-right ea) em f d ev = past-both ea ev
-  duo-last (past-both ea eb) em f d ev = absurd (false≢true em)
+  duo-evals : {k i : ℕ} {x y : Val} {w o : List ℕ} {u : Bool} {w′ : List ℕ} → Duo b s r n w₀ o₀ k i x y w o → k ≡ 0 → kindOf b n ≡ 12
+      → Answers w (binaryOf (operatorOf (flagOf b n)) x y) u w′ → Evaluates b s r n w₀ o₀ u w′ o
+  duo-evals at-left ek e a = absurd (omega (arith, ek))
+  duo-evals (at-right ea) ek e a = absurd (omega (arith, ek))
+  duo-evals (past-both ea eb) ek e a = binary-evals e ea eb a
 
-  duo-less : {more : Bool} {i m : ℕ} {l : Val} {w o : List ℕ} → Duo b s r n w₀ o₀ more i l w o → more ≡ true → Fine b (n + 1) → m ≡ next b (n + 1) → (i ≡ m → ⊥) → rounds true m m < rounds more m i
-  duo-less at-left em f er ne = omega (arith, next-past f er)
-  duo-less (at-right ea) em f er ne = absurd (ne (sym er))
-  duo-less (past-both ea eb) em f er ne = absurd (false≢true em)
+module _ {b s r : List ℕ} {n : ℕ} {w₀ o₀ : List ℕ} {k i : ℕ} {x y : Val} {w o : List ℕ} (z : BinarySoFar b s r n w₀ o₀ k i x y w o) where
+  pub binary-done : {u : Bool} {w′ : List ℕ} → k ≡ 0 → Answers w (binaryOf (operatorOf (flagOf b n)) x y) u w′ → Evaluates b s r n w₀ o₀ u w′ o
+  binary-done ek a = duo-evals (z .duo) ek (z .kind) a
 
-  duo-evals : {more : Bool} {i : ℕ} {l : Val} {w o : List ℕ} {u : Bool} {w′ : List ℕ} → Duo b s r n w₀ o₀ more i l w o → more ≡ false → kindOf b n ≡ 12
-      → Answers w (binaryOf (operatorOf (flagOf b n)) l (resultIn w)) u w′ → Evaluates b s r n w₀ o₀ u w′ o
-  duo-evals at-left em e a = absurd (true≢false em)
-  duo-evals (at-right ea) em e a = absurd (true≢false em)
-  duo-evals (past-both ea eb) em e a = binary-evals e ea refl refl eb refl refl a
-
-module _ {b s r : List ℕ} {n m : ℕ} {w₀ o₀ : List ℕ} {more : Bool} {i : ℕ} {l : Val} {w o : List ℕ} (z : BinarySoFar b s r n m w₀ o₀ more i l w o) where
-  pub binary-done : {u : Bool} {w′ : List ℕ} → more ≡ false → Answers w (binaryOf (operatorOf (flagOf b n)) l (resultIn w)) u w′ → Evaluates b s r n w₀ o₀ u w′ o
-  binary-done em a = duo-evals (z .duo) em (z .kind) a
-
-  other : not (eqb i m) ≡ true → i ≡ m → ⊥
-  other e = eqb-false i m (not-true (eqb i m) e)
-
-  module _ (em : more ≡ true) where
+  module _ (ne : k ≡ 0 → ⊥) where
     pub binary-fine : Fine b i
-    binary-fine = duo-fine (z .duo) em (z .kind) (z .fine)
+    binary-fine = duo-fine (z .duo) ne (z .kind) (z .fine)
 
     pub binary-falls : {t : ℕ} → left b n 0 ≡ t → left b i 3 < t
-    binary-falls e = duo-falls (z .duo) em e (z .fine)
+    binary-falls e = duo-falls (z .duo) ne e (z .fine)
 
-    pub binary-less : not (eqb i m) ≡ true → rounds (not (eqb i m)) m m < rounds more m i
-    binary-less e = subst (λ (q : Bool). rounds q m m < rounds more m i) (sym e) (duo-less (z .duo) em (binary-left (z .kind) (z .fine)) (z .right) (other e))
+    pub binary-stopped : {p : Bool} {w′ o′ : List ℕ} → Evaluates b s r i w o p w′ o′ → not p ≡ true → Evaluates b s r n w₀ o₀ false w′ o′
+    binary-stopped ev ep = duo-short (z .duo) ne (z .kind) ev ep
 
-    pub binary-least : not (eqb i m) ≡ false → rounds (not (eqb i m)) m i < rounds more m i
-    binary-least e = subst (λ (q : Bool). rounds q m i < rounds more m i) (sym e) (subst (λ (q : Bool). 0 < rounds q m i) (sym em) (omega arith))
+    -- the operand at node i is evaluated; m is where the right one is
+    pub binary-next : {m : ℕ} {v : Val} {w′ o′ : List ℕ} → m ≡ next b (n + 1) → Valued b s r i w o v w′ o′ → BinarySoFar b s r n w₀ o₀ (k - 1) m y v w′ o′
+    binary-next {m} {v} {w′} {o′} em ev = record {
+      kind = z .kind;
+      fine = z .fine;
+      ready = ready-after (ev .goes _ (binary-fine .spells)) (z .ready);
+      duo = subst (λ (j : ℕ). Duo b s r n w₀ o₀ (k - 1) j y v w′ o′) (sym em) (duo-on (z .duo) ne ev);
+    }
 
-    -- the operand at node i is evaluated where it is not at hand
-    module _ {q : Bool} {w₁ : List ℕ} (a : AtHand b i w q w₁) where
-      pub binary-stopped : {p : Bool} {w′ o′ : List ℕ} → not q ≡ true → Evaluates b s r i w₁ o p w′ o′ → not p ≡ true → Evaluates b s r n w₀ o₀ false w′ o′
-      binary-stopped eq ev ep = duo-short (z .duo) em (z .kind) (else-evals a (not-true q eq) ev) ep
+-- an operand that is at hand, or that is evaluated, told by other names
+module _ {b s r : List ℕ} {i : ℕ} {w o : List ℕ} {x : Val} {w′ o′ : List ℕ} where
+  renamed : {v : Val} {w₂ o₂ : List ℕ} → x ≡ v → w′ ≡ w₂ → o′ ≡ o₂ → Valued b s r i w o v w₂ o₂ → Valued b s r i w o x w′ o′
+  renamed {v} {w₂} {o₂} ex ew eo ev = subst (λ (z : List ℕ). Valued b s r i w o x w′ z) (sym eo) (subst (λ (z : List ℕ). Valued b s r i w o x z o₂) (sym ew)
+      (subst (λ (z : Val). Valued b s r i w o z w₂ o₂) (sym ex) ev))
 
-    module _ {w′ o′ : List ℕ} (ev : Evaluates b s r i w o true w′ o′) where
-      pub binary-ready : ReadyIn (given b s r) w′
-      binary-ready = ready-on ev (z .ready) refl binary-fine
+  pub operand-at-hand : {slot : Slot} {v : Val} → AtHand b i w slot → slot ≡ Set v → x ≡ v → w′ ≡ w → o′ ≡ o → Valued b s r i w o x w′ o′
+  operand-at-hand a e ex ew eo = renamed ex ew eo (valued-at-hand a e)
 
-      pub binary-next : {v : Val} → not (eqb i m) ≡ true → v ≡ valueAt (registersPart w′) 0 → BinarySoFar b s r n m w₀ o₀ (not (eqb i m)) m v w′ o′
-      binary-next {v} d e = record {
-        kind = z .kind;
-        fine = z .fine;
-        right = z .right;
-        ready = binary-ready;
-        duo = subst (λ (q : Bool). Duo b s r n w₀ o₀ q m v w′ o′) (sym d) (subst (λ (j : ℕ). Duo b s r n w₀ o₀ true j v w′ o′) (sym (z .right))
-            (subst (λ (u : Val). Duo b s r n w₀ o₀ true (next b (n + 1)) u w′ o′) (sym e) (duo-on (z .duo) em (λ h. other d (h ∙ sym (z .right))) ev)));
-      }
-
-      pub binary-last : not (eqb i m) ≡ false → BinarySoFar b s r n m w₀ o₀ (not (eqb i m)) i l w′ o′
-      binary-last d = record {
-        kind = z .kind;
-        fine = z .fine;
-        right = z .right;
-        ready = binary-ready;
-        duo = subst (λ (q : Bool). Duo b s r n w₀ o₀ q i l w′ o′) (sym d)
-            (duo-last (z .duo) em (binary-left (z .kind) (z .fine)) (eqb-true i m (not-false (eqb i m) d) ∙ z .right) ev);
-      }
-
--- an operand that is at hand, or that is evaluated since it is not, told in bytes by other names
-module _ {b s r : List ℕ} {i : ℕ} {w o : List ℕ} {q : Bool} {w₁ : List ℕ} (a : AtHand b i w q w₁) {w′ o′ : List ℕ} where
-  renamed : {w₂ o₂ : List ℕ} → w′ ≡ w₂ → o′ ≡ o₂ → Evaluates b s r i w o true w₂ o₂ → Evaluates b s r i w o true w′ o′
-  renamed {o₂ = o₂} ew eo ev = subst (λ (x : List ℕ). Evaluates b s r i w o true w′ x) (sym eo) (subst (λ (x : List ℕ). Evaluates b s r i w o true x o₂) (sym ew) ev)
-
-  pub operand-at-hand : not q ≡ false → w′ ≡ w₁ → o′ ≡ o → Evaluates b s r i w o true w′ o′
-  operand-at-hand e ew eo = renamed ew eo (at-hand-evals a (not-false q e))
-
-  pub operand-evaluated : {p : Bool} {w₂ o₂ : List ℕ} → not q ≡ true → Evaluates b s r i w₁ o p w₂ o₂ → not p ≡ false → w′ ≡ w₂ → o′ ≡ o₂ → Evaluates b s r i w o true w′ o′
-  operand-evaluated e ev ep ew eo = renamed ew eo (evaluated ep (else-evals a (not-true q e) ev))
+  pub operand-evaluated : {p : Bool} {v : Val} {w₂ o₂ : List ℕ} → Evaluates b s r i w o p w₂ o₂ → not p ≡ false → v ≡ valueAt (registersPart w₂) 0 → x ≡ v → w′ ≡ w₂ → o′ ≡ o₂
+      → Valued b s r i w o x w′ o′
+  operand-evaluated ev ep e ex ew eo = renamed ex ew eo (valued-as ev ep e)

@@ -3,8 +3,8 @@ use mathlib.Core.Bool.{Bool, true}
 use mathlib.Core.Path.{_≡_}
 use mathlib.Core.List.{List}
 use mathlib.Core.Option.{none, some}
-use Prim.Native.Nat.{ℕ, _+_, _*_, _≤_}
-use lib.ListN.{take}
+use Prim.Native.Nat.{ℕ, _+_, _*_, _^_, _<_, _≤_}
+use lib.ListN.{length, take}
 use Rattle.value.specs.declared.Val.{Val}
 use Rattle.files.specs.Program.{Tree, Trees}
 use Rattle.definition.specs.Act.{Act, done, fail, unknownAddress, fieldsWritten, _>>_}
@@ -18,10 +18,14 @@ use Rattle.hosting.specs.Scene.{given}
 use Rattle.hosting.specs.Stands.{Stands, KidsAt, FieldsAt}
 use Rattle.hosting.specs.Ending.{endOf, doneOf}
 use Rattle.operations.specs.Registers.{shortIn, endBy, endIn, toldEnd, unitIn}
-use Rattle.operations.specs.Going.{Goes}
+use Rattle.operations.specs.Going.{ReadyIn, Goes}
 use Rattle.operations.specs.Taking.{ValuesIn}
 
 -- ---- in nodes b, with symbols s and regions r
+
+-- the workspace is in order; and a reference to a slice does not tell what a slice does, that its length is a machine's number
+abbrev pub ReadyBy : List ℕ → List ℕ → List ℕ → List ℕ → Type 0
+ReadyBy b s r w = ReadyIn (given b s r) w × (length b < 2 ^ 64)
 
 -- the tree at node n is evaluated
 pub record Evals (b s r : List ℕ) (n : ℕ) (w₀ o₀ : List ℕ) (q : Outcome) (w o : List ℕ) : Type 0 where

@@ -207,13 +207,12 @@ none-told zero x n v z = absurd (z refl)
 none-told (suc zero) x n v z = refl
 none-told (suc (suc k)) x n v z = refl
 
+pub constant-is : (b : List ℕ) (n x k : ℕ) (v : Val) → x ≡ valueOf b n → k ≡ widthOf b n → v ≡ knownVal x (type (k * 8) true) → v ≡ knownVal (valueOf b n) (type (widthOf b n * 8) true)
+constant-is b n x k v ex ek ev = ev ∙ ap₂ (λ (i j : ℕ). knownVal i (type (j * 8) true)) ex ek
+
 module _ (w : List ℕ) (r : Bool) (w′ : List ℕ) where
   pub gives-as : (v u : Val) → v ≡ u → Gives w v r w′ → Gives w u r w′
   gives-as v u e g = subst (λ (z : Val). Gives w z r w′) e g
-
-  pub constant-gives : (b : List ℕ) (n x k : ℕ) (v : Val) → x ≡ valueOf b n → k ≡ widthOf b n → v ≡ knownVal x (type (k * 8) true) → Gives w v r w′
-      → Gives w (knownVal (valueOf b n) (type (widthOf b n * 8) true)) r w′
-  constant-gives b n x k v ex ek ev g = gives-as v _ (ev ∙ ap₂ (λ (i j : ℕ). knownVal i (type (j * 8) true)) ex ek) g
 
   pub register-gives : (b : List ℕ) (n k : ℕ) (v : Val) → k ≡ widthOf b n → v ≡ unknownVal (type k true) → Gives w v r w′ → Gives w (unknownVal (type (widthOf b n) true)) r w′
   register-gives b n k v ek ev g = gives-as v _ (ev ∙ ap (λ (j : ℕ). unknownVal (type j true)) ek) g
@@ -262,12 +261,12 @@ module _ (w : List ℕ) (r : Bool) (w′ : List ℕ) where
 -- ---- an operator's answer
 
 module _ (w : List ℕ) (q : Bool) (w′ : List ℕ) (l r : Val) (p : BinaryOp) (f : ℕ) (b : List ℕ) (n : ℕ) (z : Answer)
-    (ez : z ≡ binaryOf p l r) (er : r ≡ valueAt (registersPart w) 0) (ep : p ≡ operatorOf f) (ef : f ≡ flagOf b n) where
-  answer-is : z ≡ binaryOf (operatorOf (flagOf b n)) l (resultIn w)
-  answer-is = ez ∙ ap₂ (λ (o : BinaryOp) (u : Val). binaryOf o l u) (ep ∙ ap operatorOf ef) (er ∙ result-value w)
+    (ez : z ≡ binaryOf p l r) (ep : p ≡ operatorOf f) (ef : f ≡ flagOf b n) where
+  answer-is : z ≡ binaryOf (operatorOf (flagOf b n)) l r
+  answer-is = ez ∙ ap (λ (o : BinaryOp). binaryOf o l r) (ep ∙ ap operatorOf ef)
 
-  pub answers-value : (v : Val) → z ≡ Value v → Gives w v q w′ → Answers w (binaryOf (operatorOf (flagOf b n)) l (resultIn w)) q w′
+  pub answers-value : (v : Val) → z ≡ Value v → Gives w v q w′ → Answers w (binaryOf (operatorOf (flagOf b n)) l r) q w′
   answers-value v e g = record { beside = g .beside; ends = by-true (shortIn w′) (g .yes) (g .value) ∙ ap answerEnd (sym e ∙ answer-is) }
 
-  pub answers-zero : z ≡ DivisionByZero → GivesShort w (record { reason = 9; number = 0 }) q w′ → Answers w (binaryOf (operatorOf (flagOf b n)) l (resultIn w)) q w′
+  pub answers-zero : z ≡ DivisionByZero → GivesShort w (record { reason = 9; number = 0 }) q w′ → Answers w (binaryOf (operatorOf (flagOf b n)) l r) q w′
   answers-zero e g = record { beside = g .beside; ends = by-false (resultIn w′) (g .no) (g .why) ∙ ap answerEnd (sym e ∙ answer-is) }

@@ -50,10 +50,10 @@ use Rattle.hosting.proofs.Shapes.{room, var-name}
 use Rattle.hosting.proofs.Keeping.{get-runs, set-runs}
 use Rattle.operations.specs.declared.names.Told.{Told}
 use Rattle.operations.specs.Registers.{countsIn, howIn, shortIn, toldIn, endIn, toldEnd, unitIn, didWrite}
-use Rattle.operations.specs.Going.{ReadyIn, Goes, Works}
-use Rattle.operations.specs.Steps.{Gives, GivesShort, Tells, IfSet, AtHand}
+use Rattle.operations.specs.Going.{Goes, Works}
+use Rattle.operations.specs.Steps.{Gives, GivesShort, Tells, AtHand}
 use Rattle.operations.specs.Asking.{Sends, LoadsAt, AsksAddress, AsksSize, symbolVal, writeSymbol, WritesSymbol, Writes, IfDeclared, Addresses}
-use Rattle.operations.proofs.Going.{goes, halts, acts, told, by-true, by-false, gives-goes, given-goes, tells-goes, short-goes}
+use Rattle.operations.proofs.Going.{goes, halts, acts, told, by-true, by-false, done-goes, gives-goes, tells-goes, short-goes}
 use Rattle.operations.proofs.Registers.{counts-same, units-same, how-same}
 use Rattle.operations.proofs.Standing.{standing}
 use Rattle.operations.proofs.Asking.{asks-as, asks-goes, sends-asks}
@@ -234,37 +234,33 @@ get-goes k n p r = record { how = r .how; units = r .units; runs = λ h e q. get
 slot-here : (w : List ℕ) {x name : ℕ} {slot t : Slot} → name ≡ x → slot ≡ slotAs (find name (variablesIn (framePart w))) → slot ≡ t → t ≡ slotAs (find x (variablesIn (framePart w)))
 slot-here w en es p = sym p ∙ es ∙ ap (λ (y : ℕ). slotAs (find y (variablesIn (framePart w)))) en
 
-module _ {w : List ℕ} {x name : ℕ} {slot : Slot} (en : name ≡ x) (es : slot ≡ slotAs (find name (variablesIn (framePart w)))) where
-  pub set-read : {r : Bool} {v : Val} {w′ : List ℕ} → slot ≡ Set v → Gives w v r w′ → IfSet x w r w′
-  set-read p e = record {
-    yes = λ _ g o. acts (λ h s _. reads-as (s .env) x) (get-goes (λ s. readVal (s .env) x) x (sym (set-is _ _ (slot-here w en es p))) (given-goes e));
-    no = λ q. absurd (true≢false (sym (e .yes) ∙ q));
-  }
+module _ {w : List ℕ} {x name : ℕ} {slot : Slot} (en : name ≡ x) (es : slot ≡ slotAs (find name (variablesIn (framePart w)))) {g : How → Given} {o : List ℕ} where
+  read-goes : {v : Val} {e : Ending Val} {w′ : List ℕ} → slot ≡ Set v → Goes g (λ s. done v) w o e w′ o → Goes g (λ s. readVariable (s .env) x) w o e w′ o
+  read-goes p r = acts (λ h s _. reads-as (s .env) x) (get-goes (λ s. readVal (s .env) x) x (sym (set-is _ _ (slot-here w en es p))) r)
 
-  pub unset-read : slot ≡ Unset → IfSet x w false w
-  unset-read p = record { yes = λ q. absurd (true≢false (sym q)); no = λ _. (sym (unset-is _ (slot-here w en es p)), refl) }
+  pub set-read : {r : Bool} {v : Val} {w′ : List ℕ} → slot ≡ Set v → Gives w v r w′ → Goes g (λ s. readVariable (s .env) x) w o (endIn r w′) w′ o
+  set-read p e = read-goes p (gives-goes e)
 
--- one that is not set, as a symbol
-module _ {g : How → Given} {x : ℕ} {w : List ℕ} {r : Bool} {w₁ : List ℕ} (i : IfSet x w r w₁) (q : r ≡ false) where
-  pub unset-ready : ReadyIn g w → ReadyIn g w₁
-  unset-ready p = subst (ReadyIn g) (sym (i .no q .1)) p
+  pub set-goes : {v : Val} → slot ≡ Set v → Goes g (λ s. readVariable (s .env) x) w o (ended v) w o
+  set-goes {v} p = read-goes p (done-goes (λ _. v) (λ h s m. refl))
 
-  pub variable-unset : {o : List ℕ} {e : Ending Val} {w′ o′ : List ℕ} → Goes g (λ s. symbolVal (s .env) x) w₁ o e w′ o′ → Goes g (λ s. readVariable (s .env) x) w o e w′ o′
-  variable-unset {o} {e} {w′} {o′} p = acts (λ h s _. reads-as (s .env) x) (get-goes (λ s. readVal (s .env) x) x (i .no q .0) (subst (λ (z : List ℕ). Goes g (λ s. symbolVal (s .env) x) z o e w′ o′) (i .no q .1) p))
+  -- one that is not set, as a symbol
+  pub unset-read : {e : Ending Val} {w′ o′ : List ℕ} → slot ≡ Unset → Goes g (λ s. symbolVal (s .env) x) w o e w′ o′ → Goes g (λ s. readVariable (s .env) x) w o e w′ o′
+  unset-read p r = acts (λ h s _. reads-as (s .env) x) (get-goes (λ s. readVal (s .env) x) x (sym (unset-is _ (slot-here w en es p))) r)
 
 -- ---- a value at hand
 
-module _ {b : List ℕ} {n : ℕ} {w : List ℕ} {r : Bool} {w′ : List ℕ} {kind : ℕ} (p : kind ≡ kindOf b n) where
-  pub constant-at-hand : kind ≡ 0 → Gives w (knownVal (valueOf b n) (type (widthOf b n * 8) true)) r w′ → AtHand b n w r w′
+module _ {b : List ℕ} {n : ℕ} {w : List ℕ} {kind : ℕ} (p : kind ≡ kindOf b n) where
+  pub constant-at-hand : {u : Val} → kind ≡ 0 → u ≡ knownVal (valueOf b n) (type (widthOf b n * 8) true) → AtHand b n w (Set u)
   unfolding evalAs
-  constant-at-hand k e = record { yes = λ _ g o t h. standing 0 (sym p ∙ k) (λ ts _. given-goes e) h; no = λ q. absurd (true≢false (sym (e .yes) ∙ q)) }
+  constant-at-hand k eu = record { goes = λ v e g o t h. standing 0 (sym p ∙ k) (λ ts _. done-goes _ (λ _ x m. sym eu ∙ cc)) h }
 
-  pub variable-at-hand : kind ≡ 1 → IfSet (refOf b n) w r w′ → AtHand b n w r w′
+  pub variable-at-hand : {name : ℕ} {slot : Slot} → kind ≡ 1 → name ≡ refOf b n → slot ≡ slotAs (find name (variablesIn (framePart w))) → AtHand b n w slot
   unfolding evalAs
-  variable-at-hand k i = record { yes = λ q g o t h. standing 1 (sym p ∙ k) (λ ts _. i .yes q g o) h; no = λ q. i .no q .1 }
+  variable-at-hand k en es = record { goes = λ v e g o t h. standing 1 (sym p ∙ k) (λ ts _. set-goes en es e) h }
 
-pub not-at-hand : {b : List ℕ} {n : ℕ} {w : List ℕ} → AtHand b n w false w
-not-at-hand = record { yes = λ q. absurd (true≢false (sym q)); no = λ _. refl }
+pub not-at-hand : {b : List ℕ} {n : ℕ} {w : List ℕ} → AtHand b n w Unset
+not-at-hand = record { goes = λ v e. let z : _≡_ {A = ℕ} 0 1 = cc in absurd (omega arith) }
 
 -- ---- an address is taken
 

@@ -12,16 +12,16 @@ use Rattle.value.specs.Value.{castTo}
 use Rattle.files.specs.Nodes.{kindOf, refOf}
 use Rattle.files.specs.Program.{Tree, Trees}
 use Rattle.files.specs.Spells.{size}
-use Rattle.memory.specs.Overlay.{find}
 use Rattle.definition.specs.Act.{Act, done, fail, unknownAddress, Note, noNote, fieldsWritten, valueWritten, Pending, _>>_}
 use Rattle.definition.specs.Memory.{storeVal}
 use Rattle.definition.specs.Term.{eval}
-use Rattle.definition.specs.Evaluate.{Did, did, numberIn, unknownNote, readVariable, look, typeOr}
-use Rattle.workspace.specs.Parts.{notePart, tables, framePart}
-use Rattle.workspace.specs.Variables.{variablesIn}
+use Rattle.definition.specs.Evaluate.{Did, did, numberIn, unknownNote, look, typeOr}
+use Rattle.workspace.specs.Parts.{notePart, tables}
 use Rattle.workspace.specs.Note.{pendingIn}
 use Rattle.workspace.specs.Types.{pointeeAt}
 use Rattle.workspace.specs.Post.{Aside}
+use Rattle.workspace.specs.declared.variables.Slot.{Slot}
+use Rattle.workspace.specs.declared.variables.Slot.the-variants.{Set}
 use Rattle.hosting.specs.declared.How.{How}
 use Rattle.hosting.specs.declared.Counts.{Counts}
 use Rattle.hosting.specs.declared.Short.{Short}
@@ -94,15 +94,9 @@ pub record Builds (b : List ℕ) (n e address : ℕ) (w : List ℕ) (r : Bool) (
 
 -- ---- values at hand
 
--- the variable x is read, where it is set; else nothing is done
-pub record IfSet (x : ℕ) (w : List ℕ) (r : Bool) (w′ : List ℕ) : Type 0 where
-  pub yes : r ≡ true → (g : How → Given) (o : List ℕ) → Goes g (λ s. readVariable (s .env) x) w o (ended (resultIn w′)) w′ o
-  pub no : r ≡ false → (none ≡ find x (variablesIn (framePart w))) × (w′ ≡ w)
-
--- the tree at node n is evaluated; or nothing is done
-pub record AtHand (b : List ℕ) (n : ℕ) (w : List ℕ) (r : Bool) (w′ : List ℕ) : Type 0 where
-  pub yes : r ≡ true → (g : How → Given) (o : List ℕ) (t : Tree) → Stands b n t → Goes g (λ x. eval (look (x .env) t)) w o (ended (resultIn w′)) w′ o
-  pub no : r ≡ false → w′ ≡ w
+-- a value that is given is that of the tree at node n
+pub record AtHand (b : List ℕ) (n : ℕ) (w : List ℕ) (slot : Slot) : Type 0 where
+  pub goes : (v : Val) → slot ≡ Set v → (g : How → Given) (o : List ℕ) (t : Tree) → Stands b n t → Goes g (λ x. eval (look (x .env) t)) w o (ended v) w o
 
 -- ---- places
 

@@ -6,7 +6,7 @@ use crate::results::SECOND;
 use crate::results::ends;
 use crate::results::is;
 use crate::results::wrote;
-use crate::values::constant;
+use crate::values::constant_of;
 use crate::values::unknown;
 use files::nodes;
 use hosting::Short;
@@ -37,7 +37,7 @@ ghost use Rattle.hosting.specs.Scene.{given, SymbolsRead};
 ghost use Rattle.hosting.specs.Stands.{Fine};
 ghost use Rattle.operations.specs.Registers.{countsIn, endIn};
 ghost use Rattle.operations.specs.Going.{ReadyIn, Goes};
-ghost use Rattle.operations.specs.Steps.{Gives, IfSet, AtHand};
+ghost use Rattle.operations.specs.Steps.{Gives, AtHand};
 ghost use Rattle.operations.specs.Asking.{Sends, AsksAddress, AsksSize, symbolVal, Addresses, WritesSymbol, Writes, IfDeclared};
 
 // ---- the world's symbols
@@ -179,20 +179,6 @@ fn symbol(
     load_at(regions, ws, out, a.number, Ty { bits, signed })
 }
 
-// The value of the variable at node n, if it is set; else nothing is done.
-fn if_set(nodes: &[u8], ws: &mut [u8], n: usize) -> bool
-    requires { ⌜ workspaceSize ≤ length (now ws) ⌝ }
-    requires { ⌜ Fine (now nodes) n ⌝ }
-    requires { ⌜ kindOf (now nodes) n ≡ 1 ⌝ }
-    ensures { λ r. ⌜ IfSet (refOf (now (nodes .entry)) n) (now (ws .entry)) r (now (ws .exit)) ⌝ }
-{
-    let slot = variables::variable(ws, nodes::reference(nodes, n));
-    match slot {
-        Slot::Set(v) => is(ws, v),
-        Slot::Unset => false,
-    }
-}
-
 // The value of the variable at node n: what it is set to, else its symbol's.
 pub fn variable(
     nodes: &[u8],
@@ -207,24 +193,25 @@ pub fn variable(
     requires { ⌜ kindOf (now nodes) n ≡ 1 ⌝ }
     ensures { λ r. ⌜ Goes (given (now (nodes .entry)) (now (symbols .entry)) (now (regions .entry))) (λ x. readVariable (x .env) (refOf (now (nodes .entry)) n)) (now (ws .entry)) (now (out .entry)) (endIn r (now (ws .exit))) (now (ws .exit)) (now (out .exit)) ⌝ }
 {
-    if if_set(nodes, ws, n) {
-        return true;
+    let slot = variables::variable(ws, nodes::reference(nodes, n));
+    match slot {
+        Slot::Set(v) => is(ws, v),
+        Slot::Unset => symbol(nodes, symbols, regions, ws, out, n),
     }
-    symbol(nodes, symbols, regions, ws, out, n)
 }
 
-// The value at node n, if it is at hand: a Constant's, or that of a variable that is set. Else nothing is done.
+// The value at node n, if it is at hand: a Constant's, or that of a variable that is set.
 // Most operands are such, and nothing is to be evaluated for them: a caller that tries this first is spared a call of the evaluator.
-pub fn at_hand(nodes: &[u8], ws: &mut [u8], n: usize) -> bool
+pub fn at_hand(nodes: &[u8], ws: &[u8], n: usize) -> Slot
     requires { ⌜ workspaceSize ≤ length (now ws) ⌝ }
     requires { ⌜ Fine (now nodes) n ⌝ }
-    ensures { λ r. ⌜ AtHand (now (nodes .entry)) n (now (ws .entry)) r (now (ws .exit)) ⌝ }
+    ensures { λ r. ⌜ AtHand (now (nodes .entry)) n (now (ws .entry)) r ⌝ }
 {
     let kind = nodes::kind(nodes, n);
     match kind {
-        0 => constant(nodes, ws, n),
-        1 => if_set(nodes, ws, n),
-        _ => false,
+        0 => Slot::Set(constant_of(nodes, n)),
+        1 => variables::variable(ws, nodes::reference(nodes, n)),
+        _ => Slot::Unset,
     }
 }
 

@@ -26,16 +26,25 @@ ghost use Rattle.workspace.specs.Types.{typeAt};
 ghost use Rattle.operations.specs.Registers.{resultIn, toldIn};
 ghost use Rattle.operations.specs.Steps.{Gives, Answers};
 
-// A Constant.
+// A Constant's value.
+pub fn constant_of(nodes: &[u8], n: usize) -> Val
+    requires { ⌜ n * 20 + 20 ≤ length (now nodes) ⌝ }
+    requires { ⌜ widthOf (now nodes) n ≤ 8 ⌝ }
+    ensures { λ r. ⌜ r ≡ knownVal (field.valueOf (now (nodes .entry)) n) (type (widthOf (now (nodes .entry)) n * 8) true) ⌝ }
+{
+    let width = nodes::width(nodes, n);
+    let value = nodes::value(nodes, n);
+    Val::known(value, width * 8, true)
+}
+
 pub fn constant(nodes: &[u8], ws: &mut [u8], n: usize) -> bool
     requires { ⌜ workspaceSize ≤ length (now ws) ⌝ }
     requires { ⌜ n * 20 + 20 ≤ length (now nodes) ⌝ }
     requires { ⌜ widthOf (now nodes) n ≤ 8 ⌝ }
     ensures { λ r. ⌜ Gives (now (ws .entry)) (knownVal (field.valueOf (now (nodes .entry)) n) (type (widthOf (now (nodes .entry)) n * 8) true)) r (now (ws .exit)) ⌝ }
 {
-    let width = nodes::width(nodes, n);
-    let value = nodes::value(nodes, n);
-    is(ws, Val::known(value, width * 8, true))
+    let v = constant_of(nodes, n);
+    is(ws, v)
 }
 
 // A Register, which has a width only.
@@ -88,15 +97,14 @@ pub fn choose(ws: &mut [u8], condition: Val, then: Val) -> bool
     }
 }
 
-// A Binary's value, by that of its left operand; the right one's is the last result.
-pub fn operate(nodes: &[u8], ws: &mut [u8], n: usize, l: Val) -> bool
+// A Binary's value, by those of its operands.
+pub fn operate(nodes: &[u8], ws: &mut [u8], n: usize, l: Val, r: Val) -> bool
     requires { ⌜ workspaceSize ≤ length (now ws) ⌝ }
     requires { ⌜ n * 20 + 20 ≤ length (now nodes) ⌝ }
-    ensures { λ q. ⌜ Answers (now (ws .entry)) (binaryOf (operatorOf (flagOf (now (nodes .entry)) n)) l (resultIn (now (ws .entry)))) q (now (ws .exit)) ⌝ }
+    ensures { λ q. ⌜ Answers (now (ws .entry)) (binaryOf (operatorOf (flagOf (now (nodes .entry)) n)) l r) q (now (ws .exit)) ⌝ }
 {
     let flag = nodes::flag(nodes, n);
     let op = BinaryOp::of(flag);
-    let r = registers::value(ws, RESULT);
     let answer = value::binary(op, l, r);
     match answer {
         Answer::Value(v) => is(ws, v),

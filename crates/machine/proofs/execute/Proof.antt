@@ -11,7 +11,7 @@ execute-spec =
     (tie.spec
     (λ c κs. search (needs, room))  -- kind-requires
     (λ c κs.  -- execute-assign-requires
-    let i = c .before .before in
+    let i = c .before .before .before .before .before in
     (search needs, (search needs, same-kind (i .before .kind .ensures) (i .if1 .taken))))
     (λ c κs. search (needs, room-after))  -- executed-requires
     (λ c. search needs)  -- same-length
@@ -25,6 +25,6 @@ execute-spec =
     (λ c. search needs)  -- same-length-4
     (λ c.  -- returns-2
     let e = c .before .before .before .before .before .before in
-    let i = e .before .before .before in
+    let i = e .before .before .before .before .before .before in
     let k = i .before in
     gives-other (k .kind .ensures) (i .if1 .left) (e .evaluate .ensures .0) (c .noted .ensures)))

@@ -18,7 +18,7 @@ use Rattle.machine.proofs.SiblingArgs.{ArgsSoFar, args-start, args-less
 
 abbrev Inv-loop : lts.InvT-loop
 Inv-loop nodes symbols regions ws₀ out₀ vals₀ n end i₀ j₀ ws out vals i j =
-    ArgsSoFar nodes symbols regions n end ws₀ out₀ vals₀ i j ws out vals × (length ws ≡ length ws₀) × (length out ≡ length out₀) × (length vals ≡ length vals₀)
+    ArgsSoFar (nodes .now) (symbols .now) (regions .now) n end ws₀ out₀ vals₀ i j ws out vals × (length ws ≡ length ws₀) × (length out ≡ length out₀) × (length vals ≡ length vals₀)
 
 abbrev μ-loop : lts.MeasureT-loop
 μ-loop nodes symbols regions ws₀ out₀ vals₀ n end i₀ j₀ ws out vals i j = end - i
@@ -33,28 +33,28 @@ ok t = lts.spec (next-reads.Asked, next-reads.Learnt, evaluate-below t, evaluate
     (λ c. search needs)  -- same-length-3
     (λ c.  -- returns
     let e = c .before .before .before .before .before in
-    let i = e .before .before .before .before in
+    let i = e .before .before .before .before .before in
     args-stopped (i .before .loop .inv .0) (i .loop-test .taken) (e .evaluate .ensures .0) (not-true _ (c .if1 .taken)))
     (λ c κs.  -- value-requires
     let d = c .before in
     let e = d .before .before .before .before .before in
-    let i = e .before .before .before .before in
+    let i = e .before .before .before .before .before in
     (arg-ready (i .before .loop .inv .0) (i .loop-test .taken) (e .evaluate .ensures .0) (not-false _ (d .if1 .left)) .ready .fit .room, omega arith))
     (λ c κs.  -- put-val-requires
-    let d = c .before .before .before in
-    let e = d .before .before .before .before .before in
-    let i = e .before .before .before .before in
+    let t1 = c .before .before .before .before .before .before in
+    let t2 = t1 .before .before .before .before .before .before in
+    let i = t2 .before in
     (args-room (i .before .loop .inv .0) (i .loop-test .taken), i .before .loop .inv .0 .long))
     (λ c.  -- add-j
-    let d = c .before .before .before .before .before .before in
-    let e = d .before .before .before .before .before in
-    let i = e .before .before .before .before in
+    let t1 = c .before .before .before .before .before .before in
+    let t2 = t1 .before .before .before .before .before .before in
+    let i = t2 .before .before .before .before in
     omega (arith, args-room (i .before .loop .inv .0) (i .loop-test .taken)))
     (λ c.  -- loop-less
-    let d = c .before .before .before .before .before .before in
-    let e = d .before .before .before .before .before in
-    let m = e .before .before .before in
-    let i = m .before in
+    let t1 = c .before .before .before .before .before .before in
+    let t2 = t1 .before .before .before .before .before .before in
+    let m = t2 .before .before in
+    let i = m .before .before in
     args-less (i .before .loop .inv .0) (i .loop-test .taken) (m .next .ensures))
     (λ c.  -- loop-again
     let p = c .before .before in
@@ -62,7 +62,7 @@ ok t = lts.spec (next-reads.Asked, next-reads.Learnt, evaluate-below t, evaluate
     let d = v .before .before in
     let e = d .before .before .before .before .before in
     let m = e .before .before .before in
-    let i = m .before in
+    let i = m .before .before in
     let l = i .before .loop .inv in (
       args-next (l .0) (i .loop-test .taken) (e .evaluate .ensures .0) (not-false _ (d .if1 .left)) (m .next .ensures) (v .value .ensures) (p .put-val .ensures) (p .put-val .kept .0),
       e .evaluate .kept .1 .1 .1 .0 ∙ l .1,

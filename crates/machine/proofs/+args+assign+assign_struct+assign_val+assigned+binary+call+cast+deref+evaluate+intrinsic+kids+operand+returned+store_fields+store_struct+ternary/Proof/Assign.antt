@@ -27,8 +27,8 @@ ok t = lts.spec (next-reads.Asked, next-reads.Learnt, kind-reads.Asked, kind-rea
     let a = c .before .before .before .before in
     let i = a .before .before .before in
     let k = i .before in
-    let n = k .before in
-    let s = n .before .before .before .before .before .before in
+    let n = k .before .before in
+    let s = n .before .before .before .before in
     struct-executes (s .pre .1 .1 .1) (n .next .ensures) (k .kind .ensures) (i .if1 .taken) (a .assign-struct .ensures))
     (λ c κs. search (needs, second-falls, assign-right))  -- operand-requires
     (λ c. search needs)  -- same-length-3
@@ -37,15 +37,15 @@ ok t = lts.spec (next-reads.Asked, next-reads.Learnt, kind-reads.Asked, kind-rea
     let e = c .before .before .before .before .before in
     let i = e .before .before .before in
     let k = i .before in
-    let n = k .before in
-    let s = n .before .before .before .before .before .before in
+    let n = k .before .before in
+    let s = n .before .before .before .before in
     val-fails (s .pre .1 .1 .1) (n .next .ensures) (k .kind .ensures) (i .if1 .left) (e .operand .ensures) (c .if2 .taken))
     (λ c κs.  -- assign-val-requires
     let i2 = c .before .before in
     let e = i2 .before .before .before .before .before in
-    let n = e .before .before .before .before .before in
-    let s = n .before .before .before .before .before .before in
-    (first-falls _ _ 0 0 (s .pre .0) (s .pre .1 .1 .0) (omega arith), (ready-on (e .operand .ensures) (s .pre .1 .0) (i2 .if2 .left) (assign-right (s .pre .1 .1 .1) (s .pre .1 .1 .0) (n .next .ensures)), assign-left (s .pre .1 .1 .1) (s .pre .1 .1 .0))))
+    let n = e .before .before .before .before .before .before in
+    let s = n .before .before .before .before in
+    (first-falls _ _ 0 0 (s .pre .0) (s .pre .1 .1 .0) (omega arith), ((ready-on (e .operand .ensures) (s .pre .1 .0 .0) (i2 .if2 .left) (assign-right (s .pre .1 .1 .1) (s .pre .1 .1 .0) (n .next .ensures)), s .pre .1 .0 .1), assign-left (s .pre .1 .1 .1) (s .pre .1 .1 .0))))
     (λ c. search needs)  -- same-length-5
     (λ c. search needs)  -- same-length-6
     (λ c.  -- returns-3
@@ -54,6 +54,6 @@ ok t = lts.spec (next-reads.Asked, next-reads.Learnt, kind-reads.Asked, kind-rea
     let e = i2 .before .before .before .before .before in
     let i = e .before .before .before in
     let k = i .before in
-    let n = k .before in
-    let s = n .before .before .before .before .before .before in
+    let n = k .before .before in
+    let s = n .before .before .before .before in
     val-executes (s .pre .1 .1 .1) (n .next .ensures) (k .kind .ensures) (i .if1 .left) (e .operand .ensures) (i2 .if2 .left) (a .assign-val .ensures))

@@ -25,23 +25,28 @@ ok t = lts.spec (kind-reads.Asked, kind-reads.Learnt, ends-reads.Asked, ends-rea
     (λ c. search (needs, odd-struct))  -- returns
     (λ c. search (needs, room))  -- add-base
     (λ c κs. search (needs, room, deref-kid, same-kind))  -- base-requires
-    (λ c κs. (search (needs, right-falls, base-past), (search needs, search (needs, base-fine, deref-kid, same-kind))))  -- evaluate-requires
+    (λ c κs.  -- evaluate-requires
+    let b = c .before .before in
+    let i = b .before .before in
+    let k = i .before in
+    let s = k .before .before .before .before in
+    (search (needs, right-falls, base-past), (search needs, base-fine (b .base .ensures) (deref-kid (same-kind (k .kind .ensures) (i .if1 .left)) (s .pre .1 .1 .0)))))
     (λ c. search needs)  -- same-length-2
     (λ c. search needs)  -- same-length-3
     (λ c.  -- returns-2
     let e = c .before .before .before .before .before in
     let b = e .before .before .before in
-    let i = b .before in
+    let i = b .before .before in
     let k = i .before in
     struct-fails (k .kind .ensures) (i .if1 .left) (b .base .ensures) (e .evaluate .ensures .0) (c .if2 .taken))
     (λ c κs.  -- store-struct-requires
     let i2 = c .before .before in
     let e = i2 .before .before .before .before .before in
     let b = e .before .before .before in
-    let i = b .before in
+    let i = b .before .before in
     let k = i .before in
-    let s = k .before .before .before .before .before .before in
-    (right-falls _ _ 0 0 (s .pre .0) (s .pre .1 .1 .0) (s .pre .1 .1 .1 .1 .0) (omega arith), (ready-on (e .evaluate .ensures .0) (s .pre .1 .0) (i2 .if2 .left) (base-fine (b .base .ensures) (deref-kid (same-kind (k .kind .ensures) (i .if1 .left)) (s .pre .1 .1 .0))), (s .pre .1 .1 .1 .0, s .pre .1 .1 .1 .1 .1))))
+    let s = k .before .before .before .before in
+    (right-falls _ _ 0 0 (s .pre .0) (s .pre .1 .1 .0) (s .pre .1 .1 .1 .1 .0) (omega arith), ((ready-on (e .evaluate .ensures .0) (s .pre .1 .0 .0) (i2 .if2 .left) (base-fine (b .base .ensures) (deref-kid (same-kind (k .kind .ensures) (i .if1 .left)) (s .pre .1 .1 .0))), s .pre .1 .0 .1), (s .pre .1 .1 .1 .0, s .pre .1 .1 .1 .1 .1))))
     (λ c. search needs)  -- same-length-4
     (λ c. search needs)  -- same-length-5
     (λ c.  -- returns-3
@@ -49,6 +54,6 @@ ok t = lts.spec (kind-reads.Asked, kind-reads.Learnt, ends-reads.Asked, ends-rea
     let i2 = s .before .before .before in
     let e = i2 .before .before .before .before .before in
     let b = e .before .before .before in
-    let i = b .before in
+    let i = b .before .before in
     let k = i .before in
     struct-assigns (k .kind .ensures) (i .if1 .left) (b .base .ensures) (e .evaluate .ensures .0) (i2 .if2 .left) (s .store-struct .ensures))

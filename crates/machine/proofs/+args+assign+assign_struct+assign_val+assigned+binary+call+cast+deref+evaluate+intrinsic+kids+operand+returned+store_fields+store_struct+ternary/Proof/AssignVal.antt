@@ -28,45 +28,42 @@ ok t = lts.spec (value-reads.Asked, value-reads.Learnt, kind-reads.Asked, kind-r
     (λ c. search needs)  -- same-length-2
     (λ c.  -- returns
     let w = c .before .before .before .before in
-    let v = w .before .before .before .before .before in
+    let t1 = w .before .before .before .before .before .before in
+    let v = t1 .before .before in
     write-assigns (v .value .ensures) (w .write .ensures))
     (λ c κs. search (needs, room-in))  -- ends-requires
     (λ c. search needs)  -- same-length-3
     (λ c. search (needs, odd-assigns))  -- returns-2
     (λ c. search (needs, room))  -- add-target
     (λ c κs.  -- target-of-requires
-    let i2 = c .before in
+    let i2 = c .before .before in
     let k = i2 .before .before in
-    let s = k .before .before .before .before .before .before in
-    let s′ = s .before .before in
+    let s′ = k .before .before .before .before .before .before in
     (search (needs, room-in), (room (deref-kid (same-kind (k .kind .ensures) (i2 .if2 .left)) (s′ .pre .1 .1)), λ e. cast-type e (deref-kid (same-kind (k .kind .ensures) (i2 .if2 .left)) (s′ .pre .1 .1)))))
     (λ c κs.  -- evaluate-requires
     let t = c .before .before in
-    let i2 = t .before .before in
+    let i2 = t .before .before .before in
     let k = i2 .before .before in
-    let s = k .before .before .before .before .before .before in
-    let s′ = s .before .before in
+    let s′ = k .before .before .before .before .before .before in
     (target-falls _ _ (s′ .pre .0) (s′ .pre .1 .1) (t .target-of .ensures), (s′ .pre .1 .0, target-fine (t .target-of .ensures) (deref-kid (same-kind (k .kind .ensures) (i2 .if2 .left)) (s′ .pre .1 .1)))))
     (λ c. search needs)  -- same-length-4
     (λ c. search needs)  -- same-length-5
     (λ c.  -- returns-3
     let e = c .before .before .before .before .before in
     let t = e .before .before .before in
-    let i2 = t .before .before in
+    let i2 = t .before .before .before in
     let k = i2 .before .before in
-    let v = k .before in
-    let s = v .before .before .before .before .before .before in
-    let s′ = s .before in
+    let v = k .before .before in
+    let s′ = v .before .before .before .before in
     store-fails (k .kind .ensures) (i2 .if2 .left) (s′ .pre .1 .1) (v .value .ensures) (t .target-of .ensures) (e .evaluate .ensures .0) (c .if3 .taken))
     (λ c κs.  -- store-requires
     let i3 = c .before in
     let e = i3 .before .before .before .before .before in
     let t = e .before .before .before in
-    let i2 = t .before .before in
+    let i2 = t .before .before .before in
     let k = i2 .before .before in
-    let s = k .before .before .before .before .before .before in
-    let s′ = s .before .before in
-    ready-on (e .evaluate .ensures .0) (s′ .pre .1 .0) (i3 .if3 .left) (target-fine (t .target-of .ensures) (deref-kid (same-kind (k .kind .ensures) (i2 .if2 .left)) (s′ .pre .1 .1))) .ready .fit)
+    let s′ = k .before .before .before .before .before .before in
+    ready-on (e .evaluate .ensures .0) (s′ .pre .1 .0 .0) (i3 .if3 .left) (target-fine (t .target-of .ensures) (deref-kid (same-kind (k .kind .ensures) (i2 .if2 .left)) (s′ .pre .1 .1))) .ready .fit)
     (λ c. search needs)  -- same-length-6
     (λ c. search needs)  -- same-length-7
     (λ c.  -- returns-4
@@ -74,9 +71,8 @@ ok t = lts.spec (value-reads.Asked, value-reads.Learnt, kind-reads.Asked, kind-r
     let i3 = s .before .before in
     let e = i3 .before .before .before .before .before in
     let t = e .before .before .before in
-    let i2 = t .before .before in
+    let i2 = t .before .before .before in
     let k = i2 .before .before in
-    let v = k .before in
-    let s′ = v .before .before .before .before .before .before in
-    let s′′ = s′ .before in
+    let v = k .before .before in
+    let s′′ = v .before .before .before .before in
     store-assigns (k .kind .ensures) (i2 .if2 .left) (s′′ .pre .1 .1) (v .value .ensures) (t .target-of .ensures) (e .evaluate .ensures .0) (s .store .result) (i3 .if3 .left) (s .store .ensures))

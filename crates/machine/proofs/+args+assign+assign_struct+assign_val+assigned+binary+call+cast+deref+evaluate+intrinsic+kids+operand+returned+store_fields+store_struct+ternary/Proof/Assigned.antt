@@ -17,8 +17,7 @@ ok t = lts.spec (assign-below t, assign.Post, value-of-reads.Asked, value-of-rea
     (λ c. search needs)  -- same-length-2
     (λ c.  -- returns
     let a = c .before .before .before .before .before in
-    let s = a .before .before .before .before .before .before in
-    let s′ = s .before .before in
+    let s′ = a .before .before .before .before .before in
     (assigned-short (a .assign .ensures) (s′ .pre .1 .1 .1) (c .if1 .taken), assigned-fails (a .assign .ensures) (c .if1 .taken)))
     (λ c κs. search (needs, room-after))  -- value-of-requires
     (λ c. search needs)  -- same-length-3
@@ -27,6 +26,5 @@ ok t = lts.spec (assign-below t, assign.Post, value-of-reads.Asked, value-of-rea
     let v = c .before .before in
     let i = v .before .before in
     let a = i .before .before .before .before .before in
-    let s = a .before .before .before .before .before .before in
-    let s′ = s .before .before in
+    let s′ = a .before .before .before .before .before in
     (assigned-evals (a .assign .ensures) (s′ .pre .1 .1 .1) (i .if1 .left) (v .value-of .ensures), assigned-tells (a .assign .ensures) (i .if1 .left) (v .value-of .ensures)))

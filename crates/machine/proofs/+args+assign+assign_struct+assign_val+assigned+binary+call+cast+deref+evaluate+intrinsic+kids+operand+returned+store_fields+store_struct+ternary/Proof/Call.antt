@@ -23,21 +23,21 @@ ok t = lts.spec (next-reads.Asked, next-reads.Learnt, args-below t, args.Post, c
     (λ c. search needs)  -- same-length
     (λ c. search needs)  -- same-length-2
     (λ c.  -- returns
-    let a = c .before .before .before .before .before .before in
-    let r = a .before in
+    let t1 = c .before .before .before .before .before .before in
+    let r = t1 .before in
     let l = r .before .before .before .before in
-    let m = l .before in
-    let s = m .before .before .before .before .before .before in
+    let m = l .before .before in
+    let s = m .before .before .before .before in
     call-short (s .pre .1 .1 .1) (m .next .ensures) (l .next2 .ensures) (r .args2 .ensures) (not-true _ (c .if1 .taken)))
     (λ c. search needs)  -- slice-aggregate-called
     (λ c κs.  -- called-requires
-    let d = c .before .before .before in
-    let a = d .before .before .before .before .before .before in
-    let r = a .before in
+    let d = c .before .before .before .before in
+    let t1 = d .before .before .before .before .before .before in
+    let r = t1 .before in
     let l = r .before .before .before .before in
-    let m = l .before in
-    let s = m .before .before .before .before .before .before in (
-      args-ready (r .args2 .ensures) (not-false _ (d .if1 .left)) (call-args (s .pre .1 .1 .1) (s .pre .1 .1 .0) (m .next .ensures) (l .next2 .ensures)) (s .pre .1 .0) .ready .fit .room,
+    let m = l .before .before in
+    let s = m .before .before .before .before in (
+      args-ready (r .args2 .ensures) (not-false _ (d .if1 .left)) (call-args (s .pre .1 .1 .1) (s .pre .1 .1 .0) (m .next .ensures) (l .next2 .ensures)) (s .pre .1 .0 .0) .ready .fit .room,
       (
         s .pre .1 .1 .0,
         (
@@ -53,10 +53,10 @@ ok t = lts.spec (next-reads.Asked, next-reads.Learnt, args-below t, args.Post, c
     (λ c. search needs)  -- same-length-4
     (λ c.  -- returns-2
     let f = c .before .before .before .before in
-    let d = f .before .before .before .before in
-    let a = d .before .before .before .before .before .before in
-    let r = a .before in
+    let d = f .before .before .before .before .before in
+    let t1 = d .before .before .before .before .before .before in
+    let r = t1 .before in
     let l = r .before .before .before .before in
-    let m = l .before in
-    let s = m .before .before .before .before .before .before in
+    let m = l .before .before in
+    let s = m .before .before .before .before in
     call-evals (s .pre .1 .1 .1) (m .next .ensures) (l .next2 .ensures) (r .args2 .ensures) (not-false _ (d .if1 .left)) (f .called .ensures))

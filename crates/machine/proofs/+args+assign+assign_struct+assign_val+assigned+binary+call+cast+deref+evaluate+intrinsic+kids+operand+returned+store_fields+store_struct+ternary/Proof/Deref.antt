@@ -26,9 +26,8 @@ ok t = lts.spec (target-of-reads.Asked, target-of-reads.Learnt, evaluate-below t
     let at-if1 = c .before .before .before .before .before in
     let at-evaluate = at-if1 .before .before .before .before .before in
     let at-target-of = at-evaluate .before .before .before in
-    let t1 = at-target-of .before .before .before .before .before .before in
-    let s = t1 .before in
-    deref-ready (s .pre .1 .1 .1) (s .pre .1 .1 .0) (at-target-of .target-of .ensures) (at-evaluate .evaluate .ensures .0) (s .pre .1 .0) (at-if1 .if1 .left) .ready .fit .room)
+    let s = at-target-of .before .before .before .before .before in
+    deref-ready (s .pre .1 .1 .1) (s .pre .1 .1 .0) (at-target-of .target-of .ensures) (at-evaluate .evaluate .ensures .0) (s .pre .1 .0 .0) (at-if1 .if1 .left) .ready .fit .room)
     (λ c. search needs)  -- same-length-3
     (λ c. search needs)  -- same-length-4
     (λ c.  -- returns-2
@@ -38,28 +37,26 @@ ok t = lts.spec (target-of-reads.Asked, target-of-reads.Learnt, evaluate-below t
     let at-if1 = at-value .before .before in
     let at-evaluate = at-if1 .before .before .before .before .before in
     let at-target-of = at-evaluate .before .before .before in
-    let t1 = at-target-of .before .before .before .before .before .before in
-    let s = t1 .before in
+    let s = at-target-of .before .before .before .before .before in
     deref-nowhere (s .pre .1 .1 .1) (s .pre .1 .1 .0) (at-target-of .target-of .ensures) (at-evaluate .evaluate .ensures .0) (at-if1 .if1 .left) (at-value .value .ensures) (at-if2 .if2 .taken) (at-unknown .unknown .ensures))
     (λ c κs.  -- load-at-requires
-    let at-if1 = c .before .before .before .before .before .before in
+    let t1 = c .before .before .before .before .before .before in
+    let at-if1 = t1 .before in
     let at-evaluate = at-if1 .before .before .before .before .before in
     let at-target-of = at-evaluate .before .before .before in
-    let t1 = at-target-of .before .before .before .before .before .before in
-    let s = t1 .before in
-    let ready = deref-ready (s .pre .1 .1 .1) (s .pre .1 .1 .0) (at-target-of .target-of .ensures) (at-evaluate .evaluate .ensures .0) (s .pre .1 .0) (at-if1 .if1 .left) .ready in (
+    let s = at-target-of .before .before .before .before .before in
+    let ready = deref-ready (s .pre .1 .1 .1) (s .pre .1 .1 .0) (at-target-of .target-of .ensures) (at-evaluate .evaluate .ensures .0) (s .pre .1 .0 .0) (at-if1 .if1 .left) .ready in (
       ready .fit,
-      (ready .regions, target-narrow (s .pre .1 .0) (deref-kid (s .pre .1 .1 .1) (s .pre .1 .1 .0)) (at-target-of .target-of .ensures)),
+      (ready .regions, target-narrow (s .pre .1 .0 .0) (deref-kid (s .pre .1 .1 .1) (s .pre .1 .1 .0)) (at-target-of .target-of .ensures)),
     ))
     (λ c. search needs)  -- same-length-5
     (λ c. search needs)  -- same-length-6
     (λ c.  -- returns-3
     let at-load-at = c .before .before .before .before in
-    let at-if2 = at-load-at .before .before .before in
+    let at-if2 = at-load-at .before .before .before .before in
     let at-value = at-if2 .before .before in
     let at-if1 = at-value .before .before in
     let at-evaluate = at-if1 .before .before .before .before .before in
     let at-target-of = at-evaluate .before .before .before in
-    let t1 = at-target-of .before .before .before .before .before .before in
-    let s = t1 .before in
+    let s = at-target-of .before .before .before .before .before in
     deref-loads (s .pre .1 .1 .1) (s .pre .1 .1 .0) (at-target-of .target-of .ensures) (at-evaluate .evaluate .ensures .0) (at-if1 .if1 .left) (at-value .value .ensures) (at-if2 .if2 .left) (at-load-at .load-at .ensures))

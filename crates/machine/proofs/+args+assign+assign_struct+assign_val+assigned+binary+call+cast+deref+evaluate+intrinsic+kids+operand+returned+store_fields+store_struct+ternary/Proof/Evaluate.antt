@@ -42,7 +42,7 @@ ok t = lts.spec (kind-reads.Asked, kind-reads.Learnt, constant-reads.Asked, cons
     (λ c κs.  -- address-requires
     let t1 = c .before .before .before .before .before .before in
     let s = t1 .before .before .before in
-    (search needs, (s .pre .1 .0 .ready .symbols, search (needs, address-kid, same-kind))))
+    (search needs, (s .pre .1 .0 .0 .ready .symbols, search (needs, address-kid, same-kind))))
     (λ c κs. (search (needs, kind-falls), (search needs, (search needs, search (needs, same-kind)))))  -- ternary-requires
     (λ c κs. (search (needs, kind-falls), (search needs, (search needs, search (needs, same-kind)))))  -- binary-requires
     (λ c κs. (search (needs, assigned-falls), (search needs, (search needs, search (needs, same-kind)))))  -- assigned-requires
@@ -102,5 +102,5 @@ ok t = lts.spec (kind-reads.Asked, kind-reads.Learnt, constant-reads.Asked, cons
     let at-unknown4 = c .before .before in
     let at-match = at-unknown4 .before .before in
     let at-kind = at-match .before in
-    let s = at-kind .before .before .before .before .before .before in
+    let s = at-kind .before .before .before .before in
     last-evals (at-kind .kind .ensures) (s .pre .1 .1) (at-match .match .rest) (at-unknown4 .unknown4 .ensures))

@@ -15,7 +15,7 @@ use Rattle.machine.proofs.Siblings.{KidsSoFar, kids-start, kids-less, k
 
 abbrev Inv-loop : lts.InvT-loop
 Inv-loop nodes symbols regions ws₀ out₀ n end i₀ ws out i =
-    KidsSoFar nodes symbols regions n end ws₀ out₀ i ws out × (length ws ≡ length ws₀) × (length out ≡ length out₀)
+    KidsSoFar (nodes .now) (symbols .now) (regions .now) n end ws₀ out₀ i ws out × (length ws ≡ length ws₀) × (length out ≡ length out₀)
 
 abbrev μ-loop : lts.MeasureT-loop
 μ-loop nodes symbols regions ws₀ out₀ n end i₀ ws out i = end - i

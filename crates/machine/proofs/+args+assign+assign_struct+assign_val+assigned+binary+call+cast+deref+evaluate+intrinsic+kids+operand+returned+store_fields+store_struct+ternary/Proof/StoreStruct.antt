@@ -34,26 +34,24 @@ ok t = lts.spec (value-reads.Asked, value-reads.Learnt, ends-reads.Asked, ends-r
     (λ c.  -- returns-2
     let s = c .before .before .before .before .before in
     let n = s .before .before .before in
-    let i = n .before in
+    let i = n .before .before in
     let v = i .before .before in
-    let s′ = v .before .before .before .before .before .before in
-    let s′′ = s′ .before in
+    let s′′ = v .before .before .before .before in
     known-fails (v .value .ensures) (not-false _ (i .if1 .left)) (s′′ .pre .1 .1 .1) (n .next .ensures) (s .store-fields .ensures) (c .if2 .taken))
     (λ c κs.  -- built-requires
-    let n = c .before .before .before .before .before .before in
-    let n′ = n .before .before .before in
-    let s = n′ .before .before .before .before .before .before in
-    let s′ = s .before .before .before .before in
+    let t1 = c .before .before .before .before .before .before in
+    let n′ = t1 .before .before .before .before in
+    let t2 = n′ .before .before .before .before .before .before in
+    let s′ = t2 .before .before in
     (search (needs, room-after), struct-fields (s′ .pre .1 .1 .1) (s′ .pre .1 .1 .0) (n′ .next .ensures)))
     (λ c. search needs)  -- same-length-4
     (λ c. search needs)  -- same-length-5
     (λ c.  -- returns-3
     let b = c .before .before in
-    let i2 = b .before .before in
+    let i2 = b .before .before .before in
     let s = i2 .before .before .before .before .before in
     let n = s .before .before .before in
-    let i = n .before in
+    let i = n .before .before in
     let v = i .before .before in
-    let s′ = v .before .before .before .before .before .before in
-    let s′′ = s′ .before in
+    let s′′ = v .before .before .before .before in
     known-stores (v .value .ensures) (not-false _ (i .if1 .left)) (s′′ .pre .1 .1 .1) (n .next .ensures) (s .store-fields .ensures) (i2 .if2 .left) (b .built .ensures))

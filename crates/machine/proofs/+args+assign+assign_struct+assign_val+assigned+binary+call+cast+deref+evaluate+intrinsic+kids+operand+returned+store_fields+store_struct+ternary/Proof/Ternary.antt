@@ -16,7 +16,7 @@ use Rattle.machine.proofs.Operands.{TernarySoFar, ternary-start, ternar
 
 abbrev Inv-loop : lts.InvT-loop
 Inv-loop nodes symbols regions ws₀ out₀ n condition₀ then₀ i₀ left₀ ws out condition then i left =
-    TernarySoFar nodes symbols regions n ws₀ out₀ left i condition then ws out × (length ws ≡ length ws₀) × (length out ≡ length out₀)
+    TernarySoFar (nodes .now) (symbols .now) (regions .now) n ws₀ out₀ left i condition then ws out × (length ws ≡ length ws₀) × (length out ≡ length out₀)
 
 abbrev μ-loop : lts.MeasureT-loop
 μ-loop nodes symbols regions ws₀ out₀ n condition₀ then₀ i₀ left₀ ws out condition then i left = left
@@ -33,8 +33,8 @@ ok t = lts.spec (unknown-reads.Asked, unknown-reads.Learnt, value-reads.Asked, v
     (λ c. search needs)  -- same-length-2
     (λ c. search (needs, ternary-stopped))  -- returns
     (λ c κs.  -- next-requires
-    let e = c .before .before .before .before .before in
-    let i = e .before .before .before .before .before in
+    let t1 = c .before .before .before .before .before .before in
+    let i = t1 .before .before .before .before .before in
     room (ternary-fine (i .before .loop .inv .0) (i .loop-test .taken)))
     (λ c. search needs)  -- sub-left
     (λ c. search needs)  -- loop-less

@@ -1,11 +1,18 @@
+use mathlib.Core.Path.{sym, _∙_}
 use borrow.Author.Needs.{needs}
 use Rattle.hosting.proofs.Shapes.{room, constant-width}
-use Rattle.operations.proofs.Naming.{constant-at-hand, variable-at-hand, not-at-hand}
+use Rattle.operations.proofs.Naming.{name-below, constant-at-hand, variable-at-hand, not-at-hand}
 use Rattle.operations.proofs.names.at_hand.Statement.{statement}
 use Rattle.operations.proofs.names.at_hand.Tie as tie
 
-constant-requires : tie.Need-constant-requires
-constant-requires c κs = search (needs, room, constant-width)
+constant-of-requires : tie.Need-constant-of-requires
+constant-of-requires c κs = search (needs, room, constant-width)
+
+variable-requires : tie.Need-variable-requires
+variable-requires c κs =
+    let m = c .before in
+    let k = m .before in
+    search (needs, name-below (k .before .before .before .pre .1) (sym (k .kind .ensures) ∙ m .match .keys2) (c .reference .ensures .0))
 
 returns : tie.Need-returns
 returns c = search (needs, constant-at-hand)
@@ -21,10 +28,9 @@ at-hand-spec =
     tie.close
     (tie.spec
     (λ c κs. search needs)
-    constant-requires
+    constant-of-requires
     (λ c κs. search needs)
-    (λ c. search needs)
+    variable-requires
     returns
-    (λ c. search needs)
     returns-2
     returns-3)
