@@ -86,6 +86,9 @@ pub valued-as : {b s r : List ℕ} {n : ℕ} {w₀ o₀ : List ℕ} {q : Bool} {
     → Valued b s r n w₀ o₀ v w o
 valued-as ev e p = record { goes = λ t h. ended-as ev e p h }
 
+pub ready-valued : {b s r : List ℕ} {n : ℕ} {w₀ o₀ : List ℕ} {v : Val} {w o : List ℕ} → Valued b s r n w₀ o₀ v w o → ReadyIn (given b s r) w₀ → Fine b n → ReadyIn (given b s r) w
+ready-valued ev p f = ready-after (ev .goes _ (f .spells)) p
+
 -- the value is put in the registers
 pub at-hand-evals : {b s r : List ℕ} {n : ℕ} {w o : List ℕ} {slot : Slot} {v : Val} {q : Bool} {w′ : List ℕ} → AtHand b n w slot → slot ≡ Set v → Gives w v q w′ → Evaluates b s r n w o q w′ o
 at-hand-evals {w′ = w′} a e g = record { goes = λ t h. beside-after (g .beside) (told (by-true (shortIn w′) (g .yes) (g .value)) (a .goes _ e _ _ t h)) }
@@ -283,24 +286,24 @@ kids-none (a-kid lt h k) e p = absurd (omega (arith, lt, e))
 pub kids-end : {b s r : List ℕ} {n e : ℕ} {w o : List ℕ} {q : Bool} {w′ : List ℕ} → n ≡ e → Gives w nothing q w′ → EvaluatesKids b s r n e w o q w′ o
 kids-end e p = record { goes = λ ts h. kids-none h e p }
 
-module _ {b s r : List ℕ} {w₀ o₀ : List ℕ} {p : Bool} {w₁ o₁ : List ℕ} where
-  kids-one : {n e : ℕ} {q : Bool} {w o : List ℕ} {ts : Trees} → KidsAt b n e ts → (n ≡ e → ⊥) → Evaluates b s r n w₀ o₀ p w₁ o₁ → not p ≡ false
+module _ {b s r : List ℕ} {w₀ o₀ w₁ o₁ : List ℕ} where
+  kids-one : {v : Val} {n e : ℕ} {q : Bool} {w o : List ℕ} {ts : Trees} → KidsAt b n e ts → (n ≡ e → ⊥) → Valued b s r n w₀ o₀ v w₁ o₁
       → EvaluatesKids b s r (next b n) e w₁ o₁ q w o → Goes (given b s r) (λ x. kidsAct x ts) w₀ o₀ (endIn q w) w o
   unfolding look evals _>>=_
-  kids-one no-kid ne ev ep ek = absurd (ne refl)
-  kids-one (a-kid {t = t} {ts = ts} lt h k) ne ev ep ek =
-      assoc (λ x. eval (look (x .env) t)) _ _ (goes _ (ended-on ev ep h) (assoc (λ x. evals (looks (x .env) ts)) _ _ (ek .goes ts k)))
+  kids-one no-kid ne ev ek = absurd (ne refl)
+  kids-one (a-kid {t = t} {ts = ts} lt h k) ne ev ek =
+      assoc (λ x. eval (look (x .env) t)) _ _ (goes _ (ev .goes t h) (assoc (λ x. evals (looks (x .env) ts)) _ _ (ek .goes ts k)))
 
-  kids-stop : {n e : ℕ} {ts : Trees} → KidsAt b n e ts → (n ≡ e → ⊥) → Evaluates b s r n w₀ o₀ p w₁ o₁ → not p ≡ true
+  kids-stop : {p : Bool} {n e : ℕ} {ts : Trees} → KidsAt b n e ts → (n ≡ e → ⊥) → Evaluates b s r n w₀ o₀ p w₁ o₁ → not p ≡ true
       → Goes (given b s r) (λ x. kidsAct x ts) w₀ o₀ (endIn false w₁) w₁ o₁
   unfolding look evals
   kids-stop no-kid ne ev ep = absurd (ne refl)
   kids-stop (a-kid {t = t} lt h k) ne ev ep = assoc (λ x. eval (look (x .env) t)) _ _ (halts _ _ (short-on ev ep h))
 
-  module _ {n e : ℕ} (ne : n ≡ e → ⊥) (ev : Evaluates b s r n w₀ o₀ p w₁ o₁) where
-    pub kids-evals : {m : ℕ} {q : Bool} {w o : List ℕ} → not p ≡ false → m ≡ next b n → EvaluatesKids b s r m e w₁ o₁ q w o → EvaluatesKids b s r n e w₀ o₀ q w o
-    kids-evals {q = q} {w = w} {o = o} ep em ek =
-        record { goes = λ ts h. kids-one h ne ev ep (subst (λ (j : ℕ). EvaluatesKids b s r j e w₁ o₁ q w o) em ek) }
+  module _ {n e : ℕ} (ne : n ≡ e → ⊥) where
+    pub kids-evals : {v : Val} {m : ℕ} {q : Bool} {w o : List ℕ} → Valued b s r n w₀ o₀ v w₁ o₁ → m ≡ next b n → EvaluatesKids b s r m e w₁ o₁ q w o → EvaluatesKids b s r n e w₀ o₀ q w o
+    kids-evals {q = q} {w = w} {o = o} ev em ek =
+        record { goes = λ ts h. kids-one h ne ev (subst (λ (j : ℕ). EvaluatesKids b s r j e w₁ o₁ q w o) em ek) }
 
-    pub kids-short : not p ≡ true → EvaluatesKids b s r n e w₀ o₀ false w₁ o₁
-    kids-short ep = record { goes = λ ts h. kids-stop h ne ev ep }
+    pub kids-short : {p : Bool} → Evaluates b s r n w₀ o₀ p w₁ o₁ → not p ≡ true → EvaluatesKids b s r n e w₀ o₀ false w₁ o₁
+    kids-short ev ep = record { goes = λ ts h. kids-stop h ne ev ep }

@@ -20,10 +20,9 @@ use Rattle.operations.specs.Registers.{resultIn}
 use Rattle.operations.specs.Going.{ReadyIn}
 use Rattle.operations.specs.Steps.{Gives, Answers, AtHand}
 use Rattle.machine.specs.Post.{Evaluates}
-use Rattle.operations.proofs.Going.{ready-after}
 use Rattle.hosting.proofs.Shapes.{ternary-first, ternary-second, ternary-third, binary-left, binary-right}
 use Rattle.machine.proofs.Ranks.{left, first-falls, second-falls, third-falls}
-use Rattle.machine.proofs.Evaluating.{Valued, valued-at-hand, valued-as, ready-on, ternary-evals, ternary-short, ternary-short-second, ternary-short-third, binary-evals, binary-short, binary-short-right}
+use Rattle.machine.proofs.Evaluating.{Valued, valued-at-hand, valued-as, ready-valued, ready-on, ternary-evals, ternary-short, ternary-short-second, ternary-short-third, binary-evals, binary-short, binary-short-right}
 
 evaluated : {b s r : List ℕ} {i : ℕ} {w o : List ℕ} {p : Bool} {w′ o′ : List ℕ} → not p ≡ false → Evaluates b s r i w o p w′ o′ → Evaluates b s r i w o true w′ o′
 evaluated {b} {s} {r} {i} {w} {o} {p} {w′} {o′} e ev = subst (λ (q : Bool). Evaluates b s r i w o q w′ o′) (not-false p e) ev
@@ -171,7 +170,7 @@ module _ {b s r : List ℕ} {n : ℕ} {w₀ o₀ : List ℕ} {k i : ℕ} {x y : 
     binary-next {m} {v} {w′} {o′} em ev = record {
       kind = z .kind;
       fine = z .fine;
-      ready = ready-after (ev .goes _ (binary-fine .spells)) (z .ready);
+      ready = ready-valued ev (z .ready) binary-fine;
       duo = subst (λ (j : ℕ). Duo b s r n w₀ o₀ (k - 1) j y v w′ o′) (sym em) (duo-on (z .duo) ne ev);
     }
 

@@ -62,9 +62,9 @@ pointee-told g w n x m l ts = points-pick (eqb (kindOf (g .nodes) n) 8) (getD (x
 -- ---- the node that is evaluated
 
 -- the target of the node before it is evaluated
-pub target-falls : (b : List ℕ) (n : ℕ) {t : ℕ} {w : List ℕ} {p : Target} → left b n 0 ≡ t → Fine b n → Targets b w (n + 1) p → left b (p .node) 3 < t
+pub target-falls : (b : List ℕ) (n k : ℕ) {t : ℕ} {w : List ℕ} {p : Target} → left b n 0 ≡ t → Fine b n → Targets b w (n + 1) p → k ≤ 4 → left b (p .node) k < t
 unfolding left
-target-falls b n e f q = let z = target-past q in let i = f .inside in omega (arith, e, z, i .some, i .fits)
+target-falls b n k e f q h = let z = target-past q in let i = f .inside in omega (arith, e, z, i .some, i .fits, h)
 
 pub target-narrow : {g : How → Given} {b w : List ℕ} {n : ℕ} {t : Target} → ReadyIn g w → Fine b n → Targets b w n t → t .ty .bits ≤ 64
 target-narrow r f p = targeting.target-narrow (r .ready .narrow) (λ e. cast-type e f) p

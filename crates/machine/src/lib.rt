@@ -175,7 +175,7 @@ fn cast(
     requires { ⌜ kindOf (now (now nodes)) n ≡ 8 ⌝ }
     ensures { λ r. ⌜ Evaluates (now (now (nodes .entry))) (now (now (symbols .entry))) (now (now (regions .entry))) n (now (ws .entry)) (now (out .entry)) r (now (ws .exit)) (now (out .exit)) ⌝ }
 {
-    if !evaluate(nodes, symbols, regions, ws, out, n + 1) {
+    if !operand(nodes, symbols, regions, ws, out, n + 1) {
         return false;
     }
     values::cast(*nodes, ws, n)
@@ -196,7 +196,7 @@ fn deref(
     ensures { λ r. ⌜ Evaluates (now (now (nodes .entry))) (now (now (symbols .entry))) (now (now (regions .entry))) n (now (ws .entry)) (now (out .entry)) r (now (ws .exit)) (now (out .exit)) ⌝ }
 {
     let pointer = places::target_of(*nodes, ws, n + 1);
-    if !evaluate(nodes, symbols, regions, ws, out, pointer.node) {
+    if !operand(nodes, symbols, regions, ws, out, pointer.node) {
         return false;
     }
     let address = registers::value(ws, results::RESULT);
@@ -493,7 +493,7 @@ fn args(
     Filled { ok: true, count: j }
 }
 
-// An Intrinsic: its arguments are evaluated.
+// An Intrinsic: its arguments are evaluated, and nothing is done with their values.
 fn intrinsic(
     nodes: &&[u8],
     symbols: &&[u8],
@@ -511,7 +511,7 @@ fn intrinsic(
     kids(nodes, symbols, regions, ws, out, n + 1, end)
 }
 
-// The expressions from node n up to node end, each evaluated in order.
+// The expressions from node n up to node end, each evaluated in order. One whose value is at hand needs nothing done.
 fn kids(
     nodes: &&[u8],
     symbols: &&[u8],
@@ -528,8 +528,14 @@ fn kids(
     let mut i = n;
     while i != end {
         let more = places::next(*nodes, i);
-        if !evaluate(nodes, symbols, regions, ws, out, i) {
-            return false;
+        let hand = names::at_hand(*nodes, ws, i);
+        match hand {
+            Slot::Set(_) => {}
+            Slot::Unset => {
+                if !evaluate(nodes, symbols, regions, ws, out, i) {
+                    return false;
+                }
+            }
         }
         i = more;
     }

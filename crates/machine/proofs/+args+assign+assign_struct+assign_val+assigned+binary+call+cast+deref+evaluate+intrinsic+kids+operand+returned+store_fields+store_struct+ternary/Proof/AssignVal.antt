@@ -45,7 +45,7 @@ ok t = lts.spec (value-reads.Asked, value-reads.Learnt, kind-reads.Asked, kind-r
     let i2 = t .before .before .before in
     let k = i2 .before .before in
     let s′ = k .before .before .before .before .before .before in
-    (target-falls _ _ (s′ .pre .0) (s′ .pre .1 .1) (t .target-of .ensures), (s′ .pre .1 .0, target-fine (t .target-of .ensures) (deref-kid (same-kind (k .kind .ensures) (i2 .if2 .left)) (s′ .pre .1 .1)))))
+    (target-falls _ _ 3 (s′ .pre .0) (s′ .pre .1 .1) (t .target-of .ensures) (omega arith), (s′ .pre .1 .0, target-fine (t .target-of .ensures) (deref-kid (same-kind (k .kind .ensures) (i2 .if2 .left)) (s′ .pre .1 .1)))))
     (λ c. search needs)  -- same-length-4
     (λ c. search needs)  -- same-length-5
     (λ c.  -- returns-3
