@@ -16,7 +16,7 @@ use Rattle.memory.specs.declared.Stored.the-variants.{Count, Full}
 use Rattle.memory.specs.declared.row.Span.{Span}
 use Rattle.memory.specs.Overlay.{Overlay, Cell, store, stores, runOf, rank, Ascending}
 use Rattle.memory.specs.Entries.{entry, entrySize, limit, rowOf, IsRow, firstAt, partSize, first, entries, Sorted, piece, overwritten}
-use Rattle.memory.specs.Post.{Holds, Stores, StoresAll, Spans, Spliced, Beside}
+use Rattle.memory.specs.Post.{Holds, Stores, StoresAll, Spans, Spliced, Unmoved}
 use Rattle.memory.proofs.OverlayLaws.{rank-most, stores-one, stores-run, ascending-stores, length-stores}
 use Rattle.memory.proofs.EntryLaws.{length-writes, reads-add, reads-take, reads-front, take-reads, drop-reads}
 use Rattle.memory.proofs.RowLaws.{entry-sized, entry-sound, Fits}
@@ -198,7 +198,7 @@ spliced s s₁ s₂ s₃ n q r a v b w f t ef fits l₁ left right e₂ e₃ =
     })
 
 -- the entries on either side stay where they are
-pub put-beside : (s s₁ s₂ : List ℕ) (n : ℕ) → Sorted s n → (r : Span) (a v b t : ℕ) → Spliced (entries s n) n r a b → Beside n (first s n) r b t
+pub put-beside : (s s₁ s₂ : List ℕ) (n : ℕ) → Sorted s n → (r : Span) (a v b t : ℕ) → Spliced (entries s n) n r a b → Unmoved n (first s n) r b t
     → s₁ ≡ sets s ((t + r .at) * entrySize) (written a v b) → s₂ ≡ putNumber s₁ firstAt 2 t → Holds (stores a (le b v) (entries s n)) s₂ (n + b)
 put-beside s s₁ s₂ n q r a v b t w h e₁ e₂ =
     let before : r .at ≤ r .end = w .span .before in

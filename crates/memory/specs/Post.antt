@@ -67,7 +67,7 @@ pub record Spliced (m : Overlay Cell) (count : ℕ) (r : Span) (address bytes : 
   pub few : r .at + bytes + (count - r .end) ≤ limit
 
 -- no entry has the addresses of a store, and those on either side of it are in their places already if the first is to be at `to`
-pub record Beside (count first : ℕ) (r : Span) (bytes to : ℕ) : Type 0 where
+pub record Unmoved (count first : ℕ) (r : Span) (bytes to : ℕ) : Type 0 where
   pub none-there : r .end ≤ r .at
   pub left : 0 < r .at → to ≡ first
   pub right : r .end < count → to + r .at + bytes ≡ first + r .end

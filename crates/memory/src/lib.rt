@@ -8,7 +8,7 @@ ghost use Rattle.layout.specs.Number.{le};
 ghost use Rattle.layout.specs.Format.{writes};
 ghost use Rattle.memory.specs.Overlay.{toByte, find as findIn, store as storeIn, stores, runOf, load};
 ghost use Rattle.memory.specs.Entries.{Sorted, entry, entries, entrySize, limit, first as firstIn, piece, overwritten, memoryBody};
-ghost use Rattle.memory.specs.Post.{foundAs, loadedAs, Holds, Stores, StoresAll, SlideBoth, Slid, Spans, Spliced, Beside};
+ghost use Rattle.memory.specs.Post.{foundAs, loadedAs, Holds, Stores, StoresAll, SlideBoth, Slid, Spans, Spliced, Unmoved};
 
 mod row;
 mod search;
@@ -321,7 +321,7 @@ fn put_beside(
     bytes: usize,
 )
     requires { ⌜ Sorted (now part) count × Spliced (entries (now part) count) count span address bytes ⌝ }
-    requires { ⌜ Beside count (firstIn (now part) count) span bytes to ⌝ }
+    requires { ⌜ Unmoved count (firstIn (now part) count) span bytes to ⌝ }
     ensures { λ _. ⌜ Holds (stores address (le bytes number) (entries (now (part .entry)) count)) (now (part .exit)) (count + bytes) ⌝ }
 {
     put_run(part, to + span.at, address, number, bytes);
