@@ -173,7 +173,7 @@ module _ (E : Env) (quiet : (name address : ℕ) (vs : List Val) → Quiet (E.fo
       unfolding run_statement ◌>>=◌ run
       statement_records w σ =
           let r = run w (try (outcome P E s.address (look E s.root))) (leaving none σ) in
-          rw run_bind (emitted r.end r.log r.after (every_end Inner w (leaving none σ) caught) (quiet_records w caught (leaving none σ)))
+          rw (run_bind w recording (try (outcome P E s.address (look E s.root))) (leaving none σ)) (emitted r.end r.log r.after (every_end Inner w (leaving none σ) caught) (quiet_records w caught (leaving none σ)))
         where
           emitted : (e : End (End Outcome)) (l : List Entry) (σ' : State) → EndIs None (EndIs Any (λ o. OwnStop o.1)) e
               → Records 0 (leaving none σ) σ' → Records 1 σ (go_on e l σ' (λ a σ''. run w (recording a) σ'')).after

@@ -1,4 +1,6 @@
 // The two entries: a run of a lifted routine, written as a record, and the value of a constant expression of one.
+#![tactic(auto)]
+
 pub mod constants;
 
 ghost use Rattle.std.specs.Prelude.{◌≡◌, ◌≤◌, length};
@@ -15,7 +17,7 @@ use passes::bodies;
 
 // 0 and the record's length, or a refusal's number and 0.
 #[repr(C)]
-#[derive(Drop)]
+#[derive(Clone, Copy)]
 pub struct Answer {
     pub number: u32,
     pub length: u32,
@@ -109,7 +111,7 @@ pub extern "C" fn run(
 
 // A known value or none, and a refusal's number: all 0 but that where there is no value.
 #[repr(C)]
-#[derive(Drop)]
+#[derive(Clone, Copy)]
 pub struct Constant {
     pub refusal: u32,
     pub known: bool,

@@ -1,4 +1,6 @@
 // The three files of a run: what stands in them, and the checks that refuse them by number.
+#![tactic(auto)]
+
 pub mod blocks;
 pub mod call;
 pub mod head;

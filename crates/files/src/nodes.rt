@@ -77,7 +77,7 @@ pub fn value(nodes: &[u8], n: usize) -> u64
 }
 
 // What a kind lets a node be: the flag's most, what the reference is, the width's least and most, the value's most, the least and the most children.
-#[derive(Drop)]
+#[derive(Clone, Copy)]
 pub struct Rule(
     pub u8,
     pub u8,

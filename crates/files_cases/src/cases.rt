@@ -5,7 +5,7 @@ ghost use Rattle.io.specs.Counts.{IsPrefixLen};
 use libc::STDOUT_FILENO;
 
 // A place in the page, and where the file that is put together ends.
-#[derive(Drop)]
+#[derive(Clone, Copy)]
 pub struct Place {
     pub at: usize,
     pub end: usize,

@@ -1,4 +1,6 @@
 // Runs each case of data/cases.bin, which tools/files_reference.py writes, through the checks of the files, and compares the numbers.
+#![tactic(auto)]
+
 mod cases;
 
 use libc::STDOUT_FILENO;

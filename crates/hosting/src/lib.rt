@@ -1,9 +1,11 @@
 // What a run on the lent bytes is told by: its counts, how it goes, and with what an evaluation or a statement ends.
+#![tactic(auto)]
+
 use index::Maybe;
 use value::{Ty, Val};
 
 // The cursors of the two streams, the units left, and those spent on blocks and on statements.
-#[derive(Drop)]
+#[derive(Clone, Copy)]
 pub struct Tally {
     pub recorded: u64,
     pub asked: u64,
@@ -13,14 +15,14 @@ pub struct Tally {
 }
 
 // How many entries of memory the workspace holds, and the tally.
-#[derive(Drop)]
+#[derive(Clone, Copy)]
 pub struct Counts {
     pub stored: usize,
     pub tally: Tally,
 }
 
 // The depth limit, how many entries the index of regions has, and whether this is the pass that writes the questions.
-#[derive(Drop)]
+#[derive(Clone, Copy)]
 pub struct How {
     pub depth: u64,
     pub regions: usize,
@@ -28,7 +30,7 @@ pub struct How {
 }
 
 // Why an evaluation ends short: a reason and what it names.
-#[derive(Drop)]
+#[derive(Clone, Copy)]
 pub struct Short {
     pub reason: u64,
     pub number: u64,
@@ -57,13 +59,13 @@ impl Short {
     pub const BY_ZERO: u64 = 9;
 }
 
-#[derive(Drop)]
+#[derive(Clone, Copy)]
 pub enum Outcome {
     Is(Val),
     Ends(Short),
 }
 
-#[derive(Drop)]
+#[derive(Clone, Copy)]
 pub enum Note {
     Nothing,
     Fields(u64, u64),
@@ -71,7 +73,7 @@ pub enum Note {
     Unknown,
 }
 
-#[derive(Drop)]
+#[derive(Clone, Copy)]
 pub struct Did {
     pub wrote: bool,
     pub name: usize,
@@ -79,14 +81,14 @@ pub struct Did {
     pub note: Note,
 }
 
-#[derive(Drop)]
+#[derive(Clone, Copy)]
 pub enum Done {
     Does(Did),
     Fails(Short),
 }
 
 // What a returned value is cast to: a type, or nothing where the return type is `void`.
-#[derive(Drop)]
+#[derive(Clone, Copy)]
 pub enum Returns {
     As(Ty),
     Void,
@@ -94,7 +96,7 @@ pub enum Returns {
 
 // What a run needs to know of its routine beside the bodies: how many blocks it has, what it returns, and the numbers of the two names by which an
 // Intrinsic ends a run, 65,536 for one that the routine does not have.
-#[derive(Drop)]
+#[derive(Clone, Copy)]
 pub struct Facts {
     pub blocks: usize,
     pub returns: Returns,
@@ -103,7 +105,7 @@ pub struct Facts {
 }
 
 // Why a run stopped. Unknown with reason FULL is no stop of the definition: the run is refused.
-#[derive(Drop)]
+#[derive(Clone, Copy)]
 pub enum Stop {
     ReturnedNothing,
     Returned(Val),
@@ -115,14 +117,14 @@ pub enum Stop {
     Halted(Maybe, u64),
 }
 
-#[derive(Drop)]
+#[derive(Clone, Copy)]
 pub struct Walked {
     pub stop: Stop,
     pub at: Counts,
 }
 
 // How many entries the index of regions has, and the facts of the routine.
-#[derive(Drop)]
+#[derive(Clone, Copy)]
 pub struct Indexed {
     pub regions: usize,
     pub facts: Facts,

@@ -23,13 +23,13 @@ const CASE: usize = 12;
 const STATEMENT: usize = 13;
 
 // Where a block starts in its body, and which is its first statement.
-#[derive(Drop)]
+#[derive(Clone, Copy)]
 pub struct Place {
     pub start: usize,
     pub first: usize,
 }
 
-#[derive(Drop)]
+#[derive(Clone, Copy)]
 pub enum Terminator {
     Return,
     Goto(usize),
@@ -46,13 +46,13 @@ pub enum Terminator {
     },
 }
 
-#[derive(Drop)]
+#[derive(Clone, Copy)]
 pub struct Statement {
     pub address: Maybe,
     pub root: usize,
 }
 
-#[derive(Drop)]
+#[derive(Clone, Copy)]
 pub struct Case {
     pub value: u64,
     pub target: usize,

@@ -14,7 +14,7 @@ pub const SYMBOLS: usize = 1024;
 const SYMBOL: usize = 11;
 
 // How two names compare.
-#[derive(Drop)]
+#[derive(Clone, Copy)]
 enum Ordering {
     Less,
     Equal,
@@ -22,7 +22,7 @@ enum Ordering {
 }
 
 // Where the search for a name stands: before a symbol, at a world name not past that symbol's; and the entry of the name sought last.
-#[derive(Drop)]
+#[derive(Clone, Copy)]
 struct Cursor {
     symbol: usize,
     name: usize,

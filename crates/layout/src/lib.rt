@@ -1,4 +1,6 @@
 // Little-endian numbers in byte slices, and bytes compared, copied and cleared.
+#![tactic(auto)]
+
 ghost use Rattle.std.specs.Prelude.{◌≡◌, ◌++◌, ◌+◌, ◌<◌, ◌≤◌, length, take, drop, replicate};
 ghost use Rattle.layout.specs.Number.{number_at, put_number};
 ghost use Rattle.layout.specs.Text.{same};

@@ -1,4 +1,6 @@
 // Prints the listing of the run that routine.bin, world.bin and call.bin of the working folder tell of.
+#![tactic(auto)]
+
 mod run;
 
 ghost use Rattle.io.specs.Counts.{IsPrefixLen};

@@ -1,6 +1,8 @@
 // The machine: the cycle of calls that evaluates and executes a routine's nodes in a lent workspace, with what they ask written to a lent part.
 // Results go on in the workspace's registers, and from sibling to sibling a member goes by a loop: the stack grows with a tree's depth alone.
 // What is only read goes from member to member by references to its slices, a word each: a slice would take two, and room for them in each caller's frame.
+#![tactic(auto)]
+
 ghost use Rattle.std.specs.Prelude.{◌≡◌, ◌<◌, length};
 ghost use Rattle.files.specs.Nodes.{kind_of};
 ghost use Rattle.hosting.specs.Scene.{given};
@@ -17,7 +19,7 @@ use workspace::registers;
 use workspace::variables::Slot;
 
 // Whether each argument has a value, and how many there are.
-#[derive(Drop)]
+#[derive(Clone, Copy)]
 pub struct Filled {
     pub ok: bool,
     pub count: usize,

@@ -1,4 +1,6 @@
 // The bytes that a run has written: entries of an address and a byte, ascending by address, in a lent part of the workspace.
+#![tactic(auto)]
+
 ghost use Rattle.std.specs.Prelude.{◌≡◌, ◌+◌, ◌-◌, ◌*◌, ◌^◌, ◌<◌, ◌≤◌, ◌++◌, length, take, drop};
 ghost use Rattle.std.proofs.lemmas.List.Edits.{sets};
 ghost use Rattle.layout.specs.Number.{le};
@@ -27,26 +29,26 @@ pub const PART: usize = FIRST + 2;
 // So many entries are moved sooner than a branch is taken that the machine guesses wrong.
 const FEW: usize = 64;
 
-#[derive(Drop)]
+#[derive(Clone, Copy)]
 pub enum Found {
     Byte(u8),
     Nothing,
 }
 
-#[derive(Drop)]
+#[derive(Clone, Copy)]
 pub enum Stored {
     Count(usize),
     Full,
 }
 
-#[derive(Drop)]
+#[derive(Clone, Copy)]
 pub enum Loaded {
     Known(u64),
     Unknown,
 }
 
 // What the image answered to a `read`: how many bytes, and their little-endian number.
-#[derive(Drop)]
+#[derive(Clone, Copy)]
 pub struct Image {
     pub count: usize,
     pub number: u64,
@@ -68,7 +70,7 @@ impl Image {
 }
 
 // So many entries go from one place to another.
-#[derive(Drop)]
+#[derive(Clone, Copy)]
 struct Move {
     from: usize,
     to: usize,

@@ -9,14 +9,14 @@ use super::search::{address_at, lower, past};
 use super::{ENTRY, Found, Image, Loaded};
 
 // Which entries have the addresses of a store: from one up to another.
-#[derive(Drop)]
+#[derive(Clone, Copy)]
 pub struct Span {
     pub at: usize,
     pub end: usize,
 }
 
 // The byte at an address, and the rank of the next address.
-#[derive(Drop)]
+#[derive(Clone, Copy)]
 pub enum Next {
     Read(u8, usize),
     Missing,

@@ -1,5 +1,5 @@
 -- The fields of a struct, counted, and told. Assumes nothing.
-use Rattle.std.proofs.Common.{◌≡◌, ℕ, ◌+◌, ◌*◌, ◌<◌, ◌≤◌, Bool, List, length, sym, refl, subst, arith}
+use Rattle.std.proofs.Common.{◌≡◌, ℕ, ◌+◌, ◌*◌, ◌<◌, ◌≤◌, Bool, List, length, sym, refl, ap, subst, arith}
 use Rattle.files.specs.Program.{Trees}
 use Rattle.files.specs.Spells.{next, size}
 use Rattle.definition.specs.Act.{fields_written}
@@ -10,12 +10,15 @@ use Rattle.operations.specs.Steps.{Tells, CountsFields, Builds}
 
 -- ---- counted
 
-size_one : {b : List ℕ} {n e : ℕ} {ts us : Trees} → FieldsAt b n e ts → FieldsAt b n e us → size ts ≡ size us
+size_same : {b : List ℕ} {n m e d : ℕ} {ts us : Trees} → n ≡ m → e ≡ d → FieldsAt b n e ts → FieldsAt b m d us → size ts ≡ size us
 unfolding size
-size_one no_field no_field = refl
-size_one no_field (a_field lt i k l h z f) = absurd (omega (arith, lt))
-size_one (a_field lt i k l h z f) no_field = absurd (omega (arith, lt))
-size_one (a_field lt i k l h z f) (a_field lt' i' k' l' h' z' f') = omega (arith, size_one f f')
+size_same p q no_field no_field = refl
+size_same p q no_field (a_field lt i k l h z f) = absurd (omega (arith, lt, p, q))
+size_same p q (a_field lt i k l h z f) no_field = absurd (omega (arith, lt, p, q))
+size_same {b} p q (a_field lt i k l h z f) (a_field lt' i' k' l' h' z' f') = omega (arith, size_same (ap (next b) p) q f f')
+
+size_one : {b : List ℕ} {n e : ℕ} {ts us : Trees} → FieldsAt b n e ts → FieldsAt b n e us → size ts ≡ size us
+size_one f g = size_same refl refl f g
 
 -- the fields that are left, with those counted
 pub record Rest (b : List ℕ) (n e i k : ℕ) : Type 0 where

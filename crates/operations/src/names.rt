@@ -31,7 +31,7 @@ use workspace::{QUESTIONS, registers, types, variables};
 // ---- the world's symbols
 
 // What the world answers of a symbol.
-#[derive(Drop)]
+#[derive(Clone, Copy)]
 pub struct Told {
     pub known: bool,
     pub number: u64,

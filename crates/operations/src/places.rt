@@ -25,7 +25,7 @@ use value::{Ty, Val};
 use workspace::{QUESTIONS, registers, types};
 
 // A Deref's target: the node that is evaluated, and the type of what it points at.
-#[derive(Drop)]
+#[derive(Clone, Copy)]
 pub struct Target {
     pub node: usize,
     pub ty: Ty,

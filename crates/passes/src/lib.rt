@@ -1,5 +1,7 @@
 // What writes a record: the walk over a routine, and the bodies. The first pass writes the steps, counts the questions' bytes and keeps the questions beside the
 // tables. If they do not fit there, a second pass writes them.
+#![tactic(auto)]
+
 pub mod bodies;
 pub mod evaluation;
 

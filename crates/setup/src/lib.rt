@@ -1,4 +1,6 @@
 // A workspace made ready: tables of a routine and a world, made once, and the variables at the start and at the end of a run.
+#![tactic(auto)]
+
 ghost use Rattle.std.specs.Prelude.{◌≡◌, true, [], ◌≤◌, length};
 ghost use Rattle.files.specs.Refusal.{routine_refusal, world_ok, call_ok};
 ghost use Rattle.files.specs.FileTable.{body};

@@ -16,7 +16,7 @@ const FIXED: usize = 13;
 const VARIABLE: usize = 4;
 
 // A name's number and a type's.
-#[derive(Drop)]
+#[derive(Clone, Copy)]
 pub struct Named {
     pub name: usize,
     pub ty: usize,

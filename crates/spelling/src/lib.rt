@@ -1,4 +1,6 @@
 // The type that a spelling names, in the words of C.
+#![tactic(auto)]
+
 ghost use Rattle.std.specs.Prelude.{◌≡◌, ◌+◌, ◌≤◌, length, drop};
 ghost use Rattle.value.specs.Value.{type};
 ghost use Rattle.spelling.specs.Spelling.{piece_end, pieces_from, any_unsigned, dropped, is, is_bool, is_wide_unsigned, is_wide_signed, is_short_int, signed_word, unsigned_word, alone, two, Found, FoundStar, type_of, pointee_of};
@@ -7,21 +9,21 @@ use layout::same_bytes;
 use value::Ty;
 
 // A word of a spelling: where it starts and ends.
-#[derive(Drop)]
+#[derive(Clone, Copy)]
 pub enum Word {
     At(usize, usize),
     None,
 }
 
 // The place of a last star.
-#[derive(Drop)]
+#[derive(Clone, Copy)]
 pub enum Star {
     Before(usize),
     No,
 }
 
 // What a pointer points at.
-#[derive(Drop)]
+#[derive(Clone, Copy)]
 pub enum Pointee {
     Of(Ty),
     NoPointer,

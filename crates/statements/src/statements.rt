@@ -24,7 +24,7 @@ use value::Val;
 use workspace::registers;
 
 // With what a statement's root ends: it did something, or it ends the run, with no value or with one, or as an Intrinsic does, or it ends short.
-#[derive(Drop)]
+#[derive(Clone, Copy)]
 pub enum Acts {
     Does(Did),
     Leaves,
@@ -35,14 +35,14 @@ pub enum Acts {
 }
 
 // Whether the run stops after a statement.
-#[derive(Drop)]
+#[derive(Clone, Copy)]
 pub enum Halt {
     Not,
     With(Stop),
 }
 
 // What a statement's root is.
-#[derive(Drop)]
+#[derive(Clone, Copy)]
 pub enum Sort {
     Gives,
     Unreachable,

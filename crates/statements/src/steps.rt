@@ -18,7 +18,7 @@ use value::Val;
 use workspace::registers;
 
 // Which statement: its address, its block, its number among all.
-#[derive(Drop)]
+#[derive(Clone, Copy)]
 pub struct Site {
     pub address: Maybe,
     pub block: usize,

@@ -14,21 +14,21 @@ use index::blocks::{Place, Terminator};
 use value::Val;
 
 // Where the walk is: about to enter a block, or before a statement of it. (The bool stands first, so that no number of it shares a word with a tag of `Next`.)
-#[derive(Drop)]
+#[derive(Clone, Copy)]
 pub struct Spot {
     pub inside: bool,
     pub block: usize,
     pub statement: usize,
 }
 
-#[derive(Drop)]
+#[derive(Clone, Copy)]
 pub enum Next {
     Stops(Stop),
     Goes(Spot),
 }
 
 // The block that comes next, or why none does.
-#[derive(Drop)]
+#[derive(Clone, Copy)]
 pub enum Lead {
     To(usize),
     Fails(Short),

@@ -1,4 +1,6 @@
 // Writers of the pieces of a record, each given a part of the record buffer.
+#![tactic(auto)]
+
 ghost use Rattle.std.specs.Prelude.{◌≡◌, [], ◌∷◌, cond, ◌&&◌, ◌+◌, ◌*◌, ◌≤◌, ◌<◌, length, take, leb};
 ghost use Rattle.std.proofs.lemmas.List.Edits.{sets};
 ghost use Rattle.layout.specs.Number.{le};
@@ -103,7 +105,7 @@ fn put_bytes(part: &mut [u8], at: usize, from: &[u8], n: usize)
 // ---- questions
 
 // What is asked of a symbol.
-#[derive(Drop)]
+#[derive(Clone, Copy)]
 pub enum Symbol {
     AddressOf,
     SizeOf,
@@ -244,7 +246,7 @@ pub fn question_call(
 // ---- steps
 
 // A step's note by the record's number, with what it tells, and whether it tells of taken names. These stand beside it.
-#[derive(Drop)]
+#[derive(Clone, Copy)]
 pub struct NotePiece {
     pub kind: u64,
     pub address: u64,
@@ -267,7 +269,7 @@ pub fn no_note() -> NotePiece
 }
 
 // One statement run: an address if it is located, a name and a value if it wrote. Its note stands beside it.
-#[derive(Drop)]
+#[derive(Clone, Copy)]
 pub struct StepPiece {
     pub located: bool,
     pub address: u64,
@@ -387,7 +389,7 @@ pub fn plain_step(out: &mut [u8], at: u64, on: bool, s: StepPiece) -> u64
 // ---- the bodies that are written at once, each at the front of its part
 
 // Why a run stopped, by the record's numbers: an address if it is located.
-#[derive(Drop)]
+#[derive(Clone, Copy)]
 pub struct StopPiece {
     pub kind: u64,
     pub reason: u64,
@@ -440,7 +442,7 @@ pub fn counts(part: &mut [u8], entered: u64, recorded: u64)
 }
 
 // The lengths of the bodies whose length is not fixed.
-#[derive(Drop)]
+#[derive(Clone, Copy)]
 pub struct Lengths {
     pub steps: u64,
     pub variables: u64,

@@ -1,4 +1,6 @@
 // The lines of a listing, each written into a lent buffer from the routine's names and the bodies of a record.
+#![tactic(auto)]
+
 ghost use Rattle.std.specs.Prelude.{◌≡◌, ◌++◌, ◌+◌, ◌≤◌, ◌<◌, length, drop};
 ghost use Rattle.layout.specs.Text.{text};
 ghost use Rattle.layout.specs.Number.{number_at};
@@ -26,7 +28,7 @@ use value::encoding::get_val;
 pub const LINE: usize = 8192;
 
 // The length of a line, and where in its body the next one's item starts.
-#[derive(Drop)]
+#[derive(Clone, Copy)]
 pub struct Line {
     pub length: usize,
     pub next: usize,

@@ -1,4 +1,6 @@
 // Runs the value layer on rows that the original answered, and says how many rows of each file agree.
+#![tactic(auto)]
+
 mod equal;
 mod rows;
 

@@ -10,7 +10,7 @@ pub const CASTS: u64 = 1536;
 
 pub const TYPES: u64 = 278;
 
-#[derive(Drop)]
+#[derive(Clone, Copy)]
 pub enum File {
     Mixed,
     Casts,
@@ -18,7 +18,7 @@ pub enum File {
 }
 
 // What the original gave.
-#[derive(Drop)]
+#[derive(Clone, Copy)]
 pub struct Expected {
     pub by_zero: bool,
     pub known: bool,

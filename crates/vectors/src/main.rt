@@ -1,4 +1,6 @@
 // Replays the cases of data/vectors.bin, which the original answered, and says how many of each kind agree.
+#![tactic(auto)]
+
 mod answers;
 mod replay;
 mod store;

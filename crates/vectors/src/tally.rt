@@ -2,7 +2,7 @@
 use libc::STDOUT_FILENO;
 
 // How many cases of each kind there were, and how many of them agreed.
-#[derive(Drop)]
+#[derive(Clone, Copy)]
 pub struct Tally {
     pub runs: u64,
     pub good_runs: u64,

@@ -5,7 +5,7 @@ ghost use Rattle.std.specs.Prelude.{◌≡◌, ◌-◌, ◌<◌, length};
 pub const BEYOND: usize = 4294967295;
 
 // A place in a case, and where the bytes that are put together end.
-#[derive(Drop)]
+#[derive(Clone, Copy)]
 struct Place {
     at: usize,
     end: usize,

@@ -1,4 +1,6 @@
 // The walk over a routine's blocks, one unit at a time: a block is entered or a statement run, and the terminator that follows costs nothing.
+#![tactic(auto)]
+
 ghost use Rattle.std.specs.Prelude.{◌≡◌, true, false, ◌+◌, ◌*◌, ◌<◌, ◌≤◌, length};
 ghost use Rattle.index.specs.Blocks.{BlockTold, Placed};
 ghost use Rattle.workspace.specs.Parts.{workspace_size, tables, blocks_part};

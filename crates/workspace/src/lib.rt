@@ -1,6 +1,8 @@
 // The lent workspace while a routine runs: what is written to memory, the variables, the pending note, the registers, tables made once at the start, and
 // questions.
 // The functions take the whole workspace, and their contracts speak of what its bytes stand for.
+#![tactic(auto)]
+
 ghost use Rattle.std.specs.Prelude.{◌≡◌, ◌++◌, ◌*◌, ◌≤◌, length, drop};
 ghost use Rattle.layout.specs.Number.{le};
 ghost use Rattle.memory.specs.Overlay.{load};

@@ -10,7 +10,7 @@ use spelling::Pointee;
 use value::Ty;
 
 // What a name is declared with.
-#[derive(Drop)]
+#[derive(Clone, Copy)]
 pub enum Declaration {
     As(Ty),
     Nothing,

@@ -21,7 +21,7 @@ const SLOT: usize = 16;
 // The bytes of a variable in a record: its name and the value.
 const VARIABLE: usize = 16;
 
-#[derive(Drop)]
+#[derive(Clone, Copy)]
 pub enum Slot {
     Set(Val),
     Unset,

@@ -1,0 +1,22 @@
+use mathlib.Core.Path.{sym, ◌∙◌}
+use Prim.Native.Nat.{◌-◌, ◌/◌}
+use native.Mathlib.Nat.{zero-add}
+use native.Mathlib.Omega.{arith}
+use lib.ListN.{length}
+use Rattle.files.specs.Call.{argument_at}
+use Rattle.files.proofs.ListedLaws.{length_listed, get_d_listed}
+use Rattle.files.proofs.call.argument.Goals as goal
+
+pub overflow_mul-i : goal.overflow_mul-i
+overflow_mul-i c = omega (arith, rw length_listed at c.requires)
+
+pub overflow_add-i : goal.overflow_add-i
+overflow_add-i c = omega (arith, rw length_listed at c.requires)
+
+pub get64-requires : goal.get64-requires
+get64-requires c = omega (arith, rw length_listed at c.requires)
+
+pub returns : goal.returns
+returns c = let i = c.args.i in
+    let b = c.args.b.now in
+    c.get64.ensures ∙ sym (get_d_listed (argument_at b) 0 ((length b - 8) / 8) i 0 (rw length_listed at c.requires) ∙ rw zero-add)

@@ -1,0 +1,10 @@
+use native.Mathlib.Omega.{arith}
+use Rattle.files.specs.Head.{fixed_ok}
+use Rattle.files.proofs.head.check_fixed.Goals as goal
+
+pub overflow_cast-result : goal.overflow_cast-result
+overflow_cast-result c = omega (arith, c.shared_slice_known-1.given 12)
+
+pub returns : goal.returns
+unfolding fixed_ok
+returns c = rw (c.get16-name.ensures.0, c.get16-kind.ensures.0)

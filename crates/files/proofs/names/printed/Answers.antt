@@ -1,0 +1,14 @@
+use mathlib.Core.Path.{refl}
+use Prim.Native.Nat.{◌-◌}
+use borrow.Author.Rules.{rules}
+use Rattle.files.proofs.NameLaws.{printable_end, printable_on}
+use Rattle.files.proofs.names.printed.Goals as goal
+
+pub loop-i-init : goal.loop-i-init
+loop-i-init c = (refl, search rules)
+
+pub loop-i-preserved : goal.loop-i-preserved
+loop-i-preserved c = search (rules, printable_on)
+
+pub returns : goal.returns
+returns c = search (rules, printable_end)

@@ -1,0 +1,25 @@
+use native.Mathlib.Omega.{arith}
+use Rattle.index.proofs.RegionIndex.{its_body, no_next, next_inside, next_later, next_touches, next_apart}
+use borrow.Author.Rules.{rules}
+use Rattle.index.proofs.regions.touching.Goals as goal
+
+pub length_of-size-requires : goal.length_of-size-requires
+length_of-size-requires c = search (rules, its_body)
+
+pub start_of-requires : goal.start_of-requires
+start_of-requires c = search (rules, its_body)
+
+pub start_of-requires-then-next-regions : goal.start_of-requires-then-next-regions
+start_of-requires-then-next-regions c = search (rules, next_inside)
+
+pub overflow_sub-start_of : goal.overflow_sub-start_of
+overflow_sub-start_of c = search (rules, next_later)
+
+pub returns-then-start_of-last-eq1 : goal.returns-then-start_of-last-eq1
+returns-then-start_of-last-eq1 c = (search (rules, next_touches), omega arith)
+
+pub returns-else-start_of-last-eq1 : goal.returns-else-start_of-last-eq1
+returns-else-start_of-last-eq1 c = (search (rules, next_apart), omega arith)
+
+pub returns-else-next-regions : goal.returns-else-next-regions
+returns-else-next-regions c = (search (rules, no_next), omega arith)

@@ -1,0 +1,11 @@
+-- `seek` meets its contract. The loop's invariant: the symbols before the one where it stands have names before the name sought. Assumes nothing.
+use Prim.Native.Nat.{◌-◌, ◌*◌}
+use lib.ListN.{length}
+use Rattle.index.specs.Symbols.{Standing, Passed}
+use Rattle.index.proofs.symbols.seek.Given as goal
+
+abbrev pub invariant-loop-symbol : goal.invariant-loop-symbol
+invariant-loop-symbol l = Standing l.world_names l.symbols l.symbol l.number l.at × Passed l.world_names l.symbols l.symbol l.name
+
+abbrev pub decreases-loop-symbol : goal.decreases-loop-symbol
+decreases-loop-symbol l = length l.symbols - l.symbol * 11

@@ -1,0 +1,15 @@
+use Rattle.memory.proofs.MoveLaws.{up_by}
+use Rattle.std.proofs.Common.{rules}
+use Rattle.memory.proofs.up.Goals as goal
+
+pub returns-then-by-eq-ENTRY : goal.returns-then-by-eq-ENTRY
+returns-then-by-eq-ENTRY c = search (rules, up_by)
+
+pub returns-then-by : goal.returns-then-by
+returns-then-by c = search (rules, up_by)
+
+pub returns-then-by-2 : goal.returns-then-by-2
+returns-then-by-2 c = search (rules, up_by)
+
+pub returns-then-by-3 : goal.returns-then-by-3
+returns-then-by-3 c = search (rules, up_by)

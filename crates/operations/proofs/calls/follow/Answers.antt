@@ -1,0 +1,27 @@
+use Rattle.std.proofs.Common.{◌∙◌, rules}
+use Rattle.operations.proofs.Asking.{sent_size, sent_room, sends_of}
+use Rattle.operations.proofs.Taking.{follows_none, follows_limit, follows_asked}
+use Rattle.operations.proofs.calls.follow.Goals as goal
+
+pub returns-then-kind-ne-FUNCTION_NAME : goal.returns-then-kind-ne-FUNCTION_NAME
+returns-then-kind-ne-FUNCTION_NAME c = search (rules, follows_none)
+
+pub returns-then-word-eq0 : goal.returns-then-word-eq0
+returns-then-word-eq0 c = search (rules, follows_limit)
+
+pub set_word-requires : goal.set_word-requires
+set_word-requires c = sent_room c.args.ws.now c.question_call.ensures c.requires.workspace_size_in_bounds
+
+-- LEFT same-length-2
+-- let at_set_word = c.before.before in
+--     let at_kept = at_set_word.before.before.before.before in
+--     let at_word = at_kept.before.before.before.before.before.before in
+--     let at_if2 = at_word.before.before.before.before.before.before in
+--     let at_kind = at_if2.before.before.before.before in
+--     let start = at_kind.before.before.before.before.before in
+--     at_set_word.set_word.ensures.aside.size ∙ sent_size start.args.ws.now at_kept.question-call2.ensures
+
+pub returns : goal.returns
+returns c = follows_asked c.kind.ensures c.if1.false c.word.ensures c.if2.false c.requires.count_bound
+    c.reference.ensures.0 c.reference.ensures.1 c.value.ensures (search rules)
+    (sends_of _ _ _ _ _ _ _ _ _ _ c.requires.workspace_size_in_bounds c.word2.ensures c.word-second.ensures c.question_call-cursor.ensures c.question_call.ensures c.set_word.ensures)

@@ -1,0 +1,13 @@
+use Rattle.std.proofs.Common.{rules}
+use Rattle.operations.proofs.Naming.{declared_written, undeclared_fit, undeclared_symbols, symbol_writes}
+use Rattle.operations.proofs.names.write.Goals as goal
+
+pub returns-then-write_declared : goal.returns-then-write_declared
+returns-then-write_declared c = search (rules, declared_written)
+
+pub write_symbol-requires : goal.write_symbol-requires
+write_symbol-requires c = let e = c.write_declared.ensures in
+    (undeclared_fit e c.if-write_declared.false c.requires.fit, (undeclared_symbols e c.if-write_declared.false c.requires.symbols_read, c.requires.fine))
+
+pub returns : goal.returns
+returns c = search (rules, symbol_writes)

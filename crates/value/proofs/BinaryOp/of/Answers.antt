@@ -1,0 +1,66 @@
+-- `value::BinaryOp::of` meets its contract: each arm is the definition's operator, and from 17 on the list gives the last one.
+-- Assumes nothing.
+use Rattle.std.proofs.Common.{rules}
+use Rattle.std.proofs.Common.{◌≡◌, ℕ, ◌≤◌, sym, ap, ⊎_elim, eq-or-lt_of_le}
+use lib.ListN.{get_or-eq_default}
+use Rattle.layout.proofs.ArmLaws.{none_below}
+use Rattle.value.specs.declared.BinaryOp.TheVariants.{LogicalOr}
+use Rattle.value.specs.Operators.{operators, operator_of}
+use Rattle.value.proofs.BinaryOp.of.Goals as goal
+
+last : (n : ℕ) → 17 ≤ n → LogicalOr ≡ operator_of n
+last n h = ⊎_elim (ap operator_of) (λ l. sym (get_or-eq_default operators LogicalOr {n = n} l)) (eq-or-lt_of_le h)
+
+pub returns-in-0 : goal.returns-in-0
+returns-in-0 c = rw c.in-0.is
+
+pub returns-in-1 : goal.returns-in-1
+returns-in-1 c = rw c.in-1.is
+
+pub returns-in-2 : goal.returns-in-2
+returns-in-2 c = rw c.in-2.is
+
+pub returns-in-3 : goal.returns-in-3
+returns-in-3 c = rw c.in-3.is
+
+pub returns-in-4 : goal.returns-in-4
+returns-in-4 c = rw c.in-4.is
+
+pub returns-in-5 : goal.returns-in-5
+returns-in-5 c = rw c.in-5.is
+
+pub returns-in-6 : goal.returns-in-6
+returns-in-6 c = rw c.in-6.is
+
+pub returns-in-7 : goal.returns-in-7
+returns-in-7 c = rw c.in-7.is
+
+pub returns-in-8 : goal.returns-in-8
+returns-in-8 c = rw c.in-8.is
+
+pub returns-in-9 : goal.returns-in-9
+returns-in-9 c = rw c.in-9.is
+
+pub returns-in-10 : goal.returns-in-10
+returns-in-10 c = rw c.in-10.is
+
+pub returns-in-11 : goal.returns-in-11
+returns-in-11 c = rw c.in-11.is
+
+pub returns-in-12 : goal.returns-in-12
+returns-in-12 c = rw c.in-12.is
+
+pub returns-in-13 : goal.returns-in-13
+returns-in-13 c = rw c.in-13.is
+
+pub returns-in-14 : goal.returns-in-14
+returns-in-14 c = rw c.in-14.is
+
+pub returns-in-15 : goal.returns-in-15
+returns-in-15 c = rw c.in-15.is
+
+pub returns-in-16 : goal.returns-in-16
+returns-in-16 c = rw c.in-16.is
+
+pub returns-in_default : goal.returns-in_default
+returns-in_default c = last c.args.number (none_below 17 c.args.number (search rules))

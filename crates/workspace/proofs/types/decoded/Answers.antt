@@ -1,0 +1,5 @@
+use Rattle.workspace.proofs.CodeLaws.{type_made}
+use Rattle.workspace.proofs.types.decoded.Goals as goal
+
+pub returns : goal.returns
+returns c = type_made c.args.code

@@ -1,0 +1,12 @@
+use Rattle.workspace.proofs.CodeLaws.{pointed_coded, pointed_code, unpointed_code}
+use borrow.Author.Rules.{rules}
+use Rattle.workspace.proofs.types.pointee_code.Goals as goal
+
+pub code-requires : goal.code-requires
+code-requires c = search (rules, pointed_coded c.args.pointee)
+
+pub returns-in-Of : goal.returns-in-Of
+returns-in-Of c = search (rules, pointed_code)
+
+pub returns-in-NoPointer : goal.returns-in-NoPointer
+returns-in-NoPointer c = search (rules, unpointed_code)

@@ -1,0 +1,12 @@
+use Rattle.workspace.proofs.CopyLaws.{put_room, puts_set, puts_unset}
+use borrow.Author.Rules.{rules}
+use Rattle.workspace.proofs.variables.copy_variable.Goals as goal
+
+pub put_variable-requires : goal.put_variable-requires
+put_variable-requires c = search (rules, put_room)
+
+pub returns-in-Set : goal.returns-in-Set
+returns-in-Set c = search (rules, puts_set)
+
+pub returns-in-Unset : goal.returns-in-Unset
+returns-in-Unset c = search (rules, puts_unset)
