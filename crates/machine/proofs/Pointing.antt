@@ -106,7 +106,7 @@ module _ {b s r : List ℕ} {n : ℕ} {w₀ o₀ : List ℕ} (v : Val) (y : Shor
       → ((u : Tree) → Stands b (under_if (pointee_in b w₀ n) n) u → Goes (given b s r) (λ x. eval (look x.env u)) w₀ o₀ (end_by q v y) w o)
       → Goes (given b s r) (λ x. pointer x.env (look x.env t)) w₀ o₀ (end_by {A = Val × Ty} q (v, type_or (pointee_in b w₀ n)) y) w o
   pointer_on q l (stands {ts = ts} i h) f =
-      acts (λ a x m. pointer_is x.env _ ∙ ap (pointer_as _) (pointee_told (given b s r a) w₀ n x m l ts)) (pointer_as_lem q (pointee_in b w₀ n) refl (stands i h) f)
+      acts (λ a x m. pointer_is x.env (look x.env (tree (node_of b n) ts)) ∙ ap (pointer_as (look x.env (tree (node_of b n) ts))) (pointee_told (given b s r a) w₀ n x m l ts)) (pointer_as_lem q (pointee_in b w₀ n) refl (stands i h) f)
 
 -- what the pointer at node n is, where the code has evaluated its target
 module _ {b s r : List ℕ} {n : ℕ} {w₀ o₀ : List ℕ} {p : Target} {q : Bool} {w o : List ℕ} (f : Fine b n) (tg : Targets b w₀ n p) (ev : Evaluates b s r p.node w₀ o₀ q w o) where

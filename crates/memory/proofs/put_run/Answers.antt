@@ -11,10 +11,10 @@ loop-k-init c = let x = c.args in
 
 pub loop-k-preserved : goal.loop-k-preserved
 loop-k-preserved c = let x = c.args in (
-      omega arith,
-      run_turn c.loop-k.part c.put_entry.new.part x.i c.loop-k.k x.address x.bytes c.loop-k.left c.loop-k-test.true c.put_entry.ensures ∙ c.loop-k.invariant.1,
-      c.put_entry.auto.part ∙ c.loop-k.invariant.2,
-    )
+  omega arith,
+  run_turn c.loop-k.part c.put_entry.new.part x.i c.loop-k.k x.address x.bytes c.loop-k.left c.loop-k-test.true c.put_entry.ensures ∙ c.loop-k.invariant.1,
+  c.put_entry.auto.part ∙ c.loop-k.invariant.2,
+)
 
 pub returns : goal.returns
 returns c = let x = c.args in

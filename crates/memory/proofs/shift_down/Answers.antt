@@ -1,5 +1,5 @@
 use Rattle.memory.proofs.MoveLaws.{lowered, lowered_more}
-use Rattle.std.proofs.Common.{◌≡◌, ℕ, ◌+◌, ◌-◌, List, get_or, set, refl, ap, ◌∙◌, arith, length-set}
+use Rattle.std.proofs.Common.{◌≡◌, ℕ, ◌+◌, List, get_or, set, refl, ap, ◌∙◌, arith, length-set}
 use Rattle.memory.proofs.shift_down.Goals as goal
 
 pub loop-k-init : goal.loop-k-init

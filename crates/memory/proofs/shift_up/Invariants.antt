@@ -1,5 +1,5 @@
 use Rattle.memory.proofs.MoveLaws.{raised}
-use Rattle.std.proofs.Common.{◌≡◌, ◌-◌, ◌≤◌, length}
+use Rattle.std.proofs.Common.{◌≡◌, ◌≤◌, length}
 use Rattle.memory.proofs.shift_up.Given as goal
 
 abbrev pub invariant-loop-k : goal.invariant-loop-k

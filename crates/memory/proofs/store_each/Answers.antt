@@ -26,7 +26,7 @@ loop-i-preserved c = let l = c.loop-i in
     let h = stored_count (store l.at (l.left % 256) m) l.part c.store-s.new.part c.store-s.result c.in-Count.m c.store-s.ensures c.in-Count.is in (
       omega arith,
       h.sorted,
-      c.wrapping_add_u64-at.ensures ∙ omega (arith, l.invariant.2),
+      c.wrapping_add_u64-at.ensures.value ∙ omega (arith, l.invariant.2),
       each_turn m x.address x.bytes l.i l.left l.at c.loop-i-test.true l.invariant.2 (entries c.store-s.new.part c.in-Count.m) h.same ∙ l.invariant.3,
       c.store-s.auto.part ∙ l.invariant.4,
     )

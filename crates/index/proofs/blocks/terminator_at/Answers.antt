@@ -1,4 +1,5 @@
 use Rattle.index.proofs.BlockFields.{ends_return, ends_goto, ends_branch, ends_switch}
+use borrow.Author.Rules.{rules}
 use Rattle.index.proofs.blocks.terminator_at.Goals as goal
 
 pub returns-in-0 : goal.returns-in-0
@@ -13,4 +14,4 @@ returns-in-2 c = ends_branch _ _ _ c.byte-kind.ensures.0 c.requires c.address_at
 
 pub returns-in_default : goal.returns-in_default
 returns-in_default c = ends_switch _ _ _ c.byte-kind.ensures.0 c.requires c.address_at-address.ensures c.get32-root.ensures.0
-    c.get32-taken.ensures.0 c.in_default-own.rest.0.0.1 c.in_default-own.rest.0.1 c.in_default-own.rest.1
+    c.get32-taken.ensures.0 (search rules) (search rules) (search rules)

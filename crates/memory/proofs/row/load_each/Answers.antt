@@ -28,8 +28,8 @@ loop-i-preserved c = let l = c.loop-i in
     let image = le l.left.count l.left.number in
     let got = next_some (byte_or (to_byte (find l.here m)) image) (rank ((l.here + 1) % 2 ^ 64) m) c.in-Read.b c.in-Read.next (sym c.next_byte-n.ensures ∙ c.in-Read.is) in (
       omega arith,
-      got.1 ∙ ap (λ (a : ℕ). rank a m) (sym c.wrapping_add_u64-here.ensures),
-      c.wrapping_add_u64-here.ensures ∙ omega (arith, l.invariant.2),
+      got.1 ∙ ap (λ (a : ℕ). rank a m) (sym c.wrapping_add_u64-here.ensures.value),
+      c.wrapping_add_u64-here.ensures.value ∙ omega (arith, l.invariant.2),
       rw (add-one l.i) c.joined-number.ensures.1,
       load_turn m image x.address x.bytes l.i l.number l.here c.loop-i-test.true l.invariant.2 (le c.rest-left.result.count c.rest-left.result.number) c.joined-number.result c.in-Read.b (omega arith) got.0 c.joined-number.ensures.0 c.rest-left.ensures
           ∙ l.invariant.4,

@@ -1,5 +1,5 @@
 use Rattle.memory.proofs.RowLaws.{search_up, search_down, search_most}
-use Rattle.std.proofs.Common.{suc, ◌-◌, arith}
+use Rattle.std.proofs.Common.{suc, arith}
 use Rattle.memory.proofs.search.past.Goals as goal
 
 pub returns-then-last-address_at : goal.returns-then-last-address_at
