@@ -22,6 +22,6 @@ set_word-requires c = sent_room c.args.ws.now c.question_call.ensures c.requires
 --     at_set_word.set_word.ensures.aside.size ∙ sent_size start.args.ws.now at_kept.question-call2.ensures
 
 pub returns : goal.returns
-returns c = follows_asked c.kind.ensures c.if1.false c.word.ensures c.if2.false c.requires.count_bound
-    c.reference.ensures.0 c.reference.ensures.1 c.value.ensures (search rules)
-    (sends_of _ _ _ _ _ _ _ _ _ _ c.requires.workspace_size_in_bounds c.word2.ensures c.word-second.ensures c.question_call-cursor.ensures c.question_call.ensures c.set_word.ensures)
+returns c = follows_asked c.kind.ensures c.if-kind-ne-FUNCTION_NAME.false c.word.ensures c.if-word-eq0.false c.requires.count_bound
+    c.reference-name.ensures.0 c.reference-name.ensures.1 c.value-address.ensures (search rules)
+    (sends_of _ _ _ _ _ _ _ _ _ _ c.requires.workspace_size_in_bounds c.word-asked.ensures c.word-second.ensures c.question_call-cursor.ensures c.question_call.ensures c.set_word.ensures)

@@ -1,0 +1,17 @@
+-- `set_types` meets its contract. Assumes nothing.
+use Rattle.files.proofs.Accepted.{routine_body}
+use Rattle.setup.proofs.BodyFacts.{types_texts}
+use Rattle.setup.proofs.Readying.{types_set, types_size_lem}
+use borrow.Author.Rules.{rules}
+use Rattle.setup.proofs.set_types.Goals as goal
+
+pub body-requires : goal.body-requires
+body-requires c = search (rules, routine_body)
+
+pub put_types-requires : goal.put_types-requires
+put_types-requires c = search (rules, types_texts)
+
+pub returns : goal.returns
+returns c = let w = c.args.ws.now in
+    let z = c.clear.new.part in
+    (types_set c.args.routine.now w z c.requires.1 c.clear.ensures c.body.ensures c.put_types.ensures, types_size_lem c.args.routine.now w z c.requires.1 c.clear.ensures c.body.ensures c.put_types.ensures)

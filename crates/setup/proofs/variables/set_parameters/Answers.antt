@@ -1,0 +1,14 @@
+-- `set_parameters` meets its contract. The loop's invariant: the first k parameters are set. Assumes nothing.
+use Prim.Native.Nat.{◌-◌}
+use Rattle.setup.proofs.SettingLaws.{start_none, start_more, start_done}
+use borrow.Author.Rules.{rules}
+use Rattle.setup.proofs.variables.set_parameters.Goals as goal
+
+pub loop-k-init : goal.loop-k-init
+loop-k-init c = search (rules, start_none)
+
+pub loop-k-preserved : goal.loop-k-preserved
+loop-k-preserved c = search (rules, start_more)
+
+pub returns : goal.returns
+returns c = search (rules, start_done)

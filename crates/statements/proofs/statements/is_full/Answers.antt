@@ -1,0 +1,21 @@
+use Rattle.statements.specs.Endings.{full_in}
+use mathlib.Core.Path.{sym, ap}
+use Rattle.statements.proofs.statements.is_full.Goals as goal
+
+pub returns-in-Does : goal.returns-in-Does
+returns-in-Does c = sym (ap full_in c.in-Does.is)
+
+pub returns-in-Leaves : goal.returns-in-Leaves
+returns-in-Leaves c = sym (ap full_in c.in-Leaves.is)
+
+pub returns-in-Gives : goal.returns-in-Gives
+returns-in-Gives c = sym (ap full_in c.in-Gives.is)
+
+pub returns-in-Strays : goal.returns-in-Strays
+returns-in-Strays c = sym (ap full_in c.in-Strays.is)
+
+pub returns-in-Halts : goal.returns-in-Halts
+returns-in-Halts c = sym (ap full_in c.in-Halts.is)
+
+pub returns-in-Fails : goal.returns-in-Fails
+returns-in-Fails c = sym (ap full_in c.in-Fails.is)

@@ -1,0 +1,11 @@
+use Rattle.walk.proofs.WalkLaws.{Left}
+use Rattle.operations.specs.Registers.{counts_in}
+use lib.ListN.{length}
+use mathlib.Core.Path.{◌≡◌}
+use Rattle.walk.proofs.rounds.Given as goal
+
+abbrev pub invariant-loop-spot : goal.invariant-loop-spot
+invariant-loop-spot l = (length l.ws ≡ length l.initial.ws) × ((length l.out ≡ length l.initial.out) × Left l.nodes l.symbols l.regions l.statements l.blocks l.facts l.initial.ws l.initial.out l.spot l.ws l.out)
+
+abbrev pub decreases-loop-spot : goal.decreases-loop-spot
+decreases-loop-spot l = (counts_in l.ws).tally.left
