@@ -100,7 +100,7 @@ fn execute_assign(
 }
 
 // The expression at node n is evaluated. Of an Assign the registers also tell what it did.
-#[cycle(args_assign_assign_struct_assign_val_assigned_binary_call_cast_deref_evaluate_intrinsic_kids_operand_returned_store_fields_store_struct_ternary)]
+#[cycle(evaluation)]
 fn evaluate(
     nodes: &&[u8],
     symbols: &&[u8],
@@ -139,7 +139,7 @@ fn evaluate(
 
 // The expression at node n is evaluated. A value that is at hand is read without a call of the cycle, which would cost several times as much.
 // A Binary does the same in its loop, where such a value need not be put in the registers.
-#[cycle(args_assign_assign_struct_assign_val_assigned_binary_call_cast_deref_evaluate_intrinsic_kids_operand_returned_store_fields_store_struct_ternary)]
+#[cycle(evaluation)]
 fn operand(
     nodes: &&[u8],
     symbols: &&[u8],
@@ -160,7 +160,7 @@ fn operand(
 }
 
 // A Cast.
-#[cycle(args_assign_assign_struct_assign_val_assigned_binary_call_cast_deref_evaluate_intrinsic_kids_operand_returned_store_fields_store_struct_ternary)]
+#[cycle(evaluation)]
 fn cast(
     nodes: &&[u8],
     symbols: &&[u8],
@@ -181,7 +181,7 @@ fn cast(
 }
 
 // A Deref: what its target points at. A Cast to a pointer is not evaluated, what is under it is.
-#[cycle(args_assign_assign_struct_assign_val_assigned_binary_call_cast_deref_evaluate_intrinsic_kids_operand_returned_store_fields_store_struct_ternary)]
+#[cycle(evaluation)]
 fn deref(
     nodes: &&[u8],
     symbols: &&[u8],
@@ -208,7 +208,7 @@ fn deref(
 
 // A Ternary: both arms are evaluated. By a loop, since each call of the cycle in the code has room for its slices in the frame of a level.
 // After three rounds the last two values that were kept are the condition's and the first arm's; what was kept before falls out.
-#[cycle(args_assign_assign_struct_assign_val_assigned_binary_call_cast_deref_evaluate_intrinsic_kids_operand_returned_store_fields_store_struct_ternary)]
+#[cycle(evaluation)]
 fn ternary(
     nodes: &&[u8],
     symbols: &&[u8],
@@ -239,7 +239,7 @@ fn ternary(
 }
 
 // A Binary, the left operand first. Both by one call of the cycle in the code, as in a Ternary: after two rounds the last two values are theirs.
-#[cycle(args_assign_assign_struct_assign_val_assigned_binary_call_cast_deref_evaluate_intrinsic_kids_operand_returned_store_fields_store_struct_ternary)]
+#[cycle(evaluation)]
 fn binary(
     nodes: &&[u8],
     symbols: &&[u8],
@@ -279,7 +279,7 @@ fn binary(
 }
 
 // An Assign as an expression is executed: its value is what it wrote to a variable.
-#[cycle(args_assign_assign_struct_assign_val_assigned_binary_call_cast_deref_evaluate_intrinsic_kids_operand_returned_store_fields_store_struct_ternary)]
+#[cycle(evaluation)]
 fn assigned(
     nodes: &&[u8],
     symbols: &&[u8],
@@ -300,7 +300,7 @@ fn assigned(
 }
 
 // An Assign is executed: the right side is evaluated, unless it is a StructInit, and then the left.
-#[cycle(args_assign_assign_struct_assign_val_assigned_binary_call_cast_deref_evaluate_intrinsic_kids_operand_returned_store_fields_store_struct_ternary)]
+#[cycle(evaluation)]
 fn assign(
     nodes: &&[u8],
     symbols: &&[u8],
@@ -327,7 +327,7 @@ fn assign(
 }
 
 // The last result is assigned to what is at node left.
-#[cycle(args_assign_assign_struct_assign_val_assigned_binary_call_cast_deref_evaluate_intrinsic_kids_operand_returned_store_fields_store_struct_ternary)]
+#[cycle(evaluation)]
 fn assign_val(
     nodes: &&[u8],
     symbols: &&[u8],
@@ -357,7 +357,7 @@ fn assign_val(
 }
 
 // The StructInit at node right is assigned through the pointer at node left.
-#[cycle(args_assign_assign_struct_assign_val_assigned_binary_call_cast_deref_evaluate_intrinsic_kids_operand_returned_store_fields_store_struct_ternary)]
+#[cycle(evaluation)]
 fn assign_struct(
     nodes: &&[u8],
     symbols: &&[u8],
@@ -386,7 +386,7 @@ fn assign_struct(
 }
 
 // The StructInit at node right is stored to the address that is the last result, which node base gave.
-#[cycle(args_assign_assign_struct_assign_val_assigned_binary_call_cast_deref_evaluate_intrinsic_kids_operand_returned_store_fields_store_struct_ternary)]
+#[cycle(evaluation)]
 fn store_struct(
     nodes: &&[u8],
     symbols: &&[u8],
@@ -414,7 +414,7 @@ fn store_struct(
 }
 
 // The fields from node n up to node end, each stored at its offset from an address.
-#[cycle(args_assign_assign_struct_assign_val_assigned_binary_call_cast_deref_evaluate_intrinsic_kids_operand_returned_store_fields_store_struct_ternary)]
+#[cycle(evaluation)]
 fn store_fields(
     nodes: &&[u8],
     symbols: &&[u8],
@@ -444,7 +444,7 @@ fn store_fields(
 }
 
 // A Call: the arguments are evaluated, the world is asked, and the locals whose address is taken become unknown.
-#[cycle(args_assign_assign_struct_assign_val_assigned_binary_call_cast_deref_evaluate_intrinsic_kids_operand_returned_store_fields_store_struct_ternary)]
+#[cycle(evaluation)]
 fn call(
     nodes: &&[u8],
     symbols: &&[u8],
@@ -469,7 +469,7 @@ fn call(
 }
 
 // The values of the expressions from node n up to node end, in vals.
-#[cycle(args_assign_assign_struct_assign_val_assigned_binary_call_cast_deref_evaluate_intrinsic_kids_operand_returned_store_fields_store_struct_ternary)]
+#[cycle(evaluation)]
 fn args(
     nodes: &&[u8],
     symbols: &&[u8],
@@ -504,7 +504,7 @@ fn args(
 }
 
 // An Intrinsic: its arguments are evaluated, and nothing is done with their values.
-#[cycle(args_assign_assign_struct_assign_val_assigned_binary_call_cast_deref_evaluate_intrinsic_kids_operand_returned_store_fields_store_struct_ternary)]
+#[cycle(evaluation)]
 fn intrinsic(
     nodes: &&[u8],
     symbols: &&[u8],
@@ -523,7 +523,7 @@ fn intrinsic(
 }
 
 // The expressions from node n up to node end, each evaluated in order. One whose value is at hand needs nothing done.
-#[cycle(args_assign_assign_struct_assign_val_assigned_binary_call_cast_deref_evaluate_intrinsic_kids_operand_returned_store_fields_store_struct_ternary)]
+#[cycle(evaluation)]
 fn kids(
     nodes: &&[u8],
     symbols: &&[u8],
@@ -555,7 +555,7 @@ fn kids(
 }
 
 // A Return as an expression: its value.
-#[cycle(args_assign_assign_struct_assign_val_assigned_binary_call_cast_deref_evaluate_intrinsic_kids_operand_returned_store_fields_store_struct_ternary)]
+#[cycle(evaluation)]
 fn returned(
     nodes: &&[u8],
     symbols: &&[u8],

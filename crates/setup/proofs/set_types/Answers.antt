@@ -9,7 +9,7 @@ pub body-requires : goal.body-requires
 body-requires c = search (rules, routine_body)
 
 pub put_types-requires : goal.put_types-requires
-put_types-requires c = search (rules, types_texts)
+put_types-requires c = (types_texts _ c.requires.0 c.body.ensures, search rules)
 
 pub returns : goal.returns
 returns c = let w = c.args.ws.now in

@@ -1,0 +1,518 @@
+-- The cycle of calls, member by member. Assumes nothing.
+use Prim.Native.Nat.{◌-◌}
+use Rattle.hosting.proofs.Shapes.{room, arg_here, assign_left, assign_right, same_kind, deref_kid, cast_type, binary_left, call_callee, call_args, cast_kid, constant_width, address_kid, intrinsic_kids, kid_here, returned_kid, field_room, field_inside, field_kid, field_type, struct_fields}
+use Rattle.machine.proofs.Assigning.{struct_executes, val_fails, val_executes, write_assigns, odd_assigns, store_fails, store_assigns, assigned_short, assigned_fails, assigned_evals, assigned_tells}
+use Rattle.machine.proofs.Calling.{call_short, args_ready, call_evals}
+use Rattle.machine.proofs.Evaluating.{ready_on, cast_short, cast_evals, alone, constant_evals, var_evals, register_evals, string_evals, function_evals, true_evals, false_evals, decided_evals, address_evals, struct_evals, last_evals, intrinsic_evals, at_hand_evals, returned_nothing, returned_evals}
+use Rattle.machine.proofs.Operands.{binary_start, binary_fine, binary_falls, binary_stopped, binary_next, operand_at_hand, operand_evaluated, binary_done, ternary_start, ternary_fine, ternary_falls, ternary_stopped, ternary_next, ternary_done}
+use Rattle.machine.proofs.Pointing.{target_falls, deref_short, deref_ready, deref_nowhere, target_narrow, deref_loads}
+use Rattle.machine.proofs.Ranks.{here_falls, first_falls, next_past, second_falls, right_falls, assign_falls, kind_falls, assigned_falls, operand_falls, field_falls}
+use Rattle.machine.proofs.Room.{room_in, room_after}
+use Rattle.machine.proofs.SiblingArgs.{args_start, args_stopped, arg_ready, args_room, args_less, args_next, args_done}
+use Rattle.machine.proofs.SiblingFields.{fields_start, fields_stopped, field_stopped, fields_less, fields_next, fields_done}
+use Rattle.machine.proofs.Siblings.{kids_start, kids_stopped, kids_less, kids_skipped, kids_next, kids_done}
+use Rattle.machine.proofs.Storing.{odd_struct, base_past, struct_fails, struct_assigns, unknown_stores, known_fails, known_stores}
+use Rattle.operations.proofs.Targeting.{base_fine, target_fine}
+use borrow.Author.Rules.{rules}
+use borrow.Author.Tests.{not-true, not-false}
+use lib.ListN.{length}
+use mathlib.Core.Logic.{⊎_elim}
+use mathlib.Core.Path.{◌∙◌, ap, refl}
+use native.Mathlib.Omega.{arith}
+use Rattle.machine.proofs.+evaluation.Goals as goal
+
+pub args-loop-i-init : goal.args-loop-i-init
+args-loop-i-init t c = search (rules, args_start)
+
+pub args-next-more-requires : goal.args-next-more-requires
+args-next-more-requires t c = search (rules, room, arg_here)
+
+pub args-evaluate-requires : goal.args-evaluate-requires
+args-evaluate-requires t c = (search (rules, here_falls), (search rules, search (rules, arg_here)))
+
+pub args-returns-then-not-evaluate : goal.args-returns-then-not-evaluate
+args-returns-then-not-evaluate t c = args_stopped c.loop-i.invariant.0 c.loop-i-test.true c.evaluate.ensures.0 (not-true _ (ap not c.if-not-evaluate.true))
+
+pub args-value-v-requires : goal.args-value-v-requires
+args-value-v-requires t c = ((arg_ready c.loop-i.invariant.0 c.loop-i-test.true c.evaluate.ensures.0 (not-false _ (ap not c.if-not-evaluate.false))).ready.fit.room, omega arith)
+
+pub args-put_val-requires : goal.args-put_val-requires
+args-put_val-requires t c = record { k_bound = args_room c.loop-i.invariant.0 c.loop-i-test.true; vals_len = c.loop-i.invariant.0.long }
+
+pub args-overflow_add-j : goal.args-overflow_add-j
+args-overflow_add-j t c = omega (arith, args_room c.loop-i.invariant.0 c.loop-i-test.true)
+
+pub args-loop-i-smaller : goal.args-loop-i-smaller
+args-loop-i-smaller t c = args_less c.loop-i.invariant.0 c.loop-i-test.true c.next-more.ensures
+
+pub args-loop-i-preserved : goal.args-loop-i-preserved
+args-loop-i-preserved t c = let l = c.loop-i.invariant in (
+      args_next l.0 c.loop-i-test.true c.evaluate.ensures.0 (not-false _ (ap not c.if-not-evaluate.false)) c.next-more.ensures c.value-v.ensures c.put_val.ensures c.put_val.auto.vals,
+      c.evaluate.auto.ws ∙ l.1,
+      c.evaluate.auto.out ∙ l.2,
+      c.put_val.auto.vals ∙ l.3,
+    )
+
+pub args-returns : goal.args-returns
+args-returns t c = search (rules, args_done)
+
+pub assign-overflow_add-left : goal.assign-overflow_add-left
+assign-overflow_add-left t c = search (rules, room)
+
+pub assign-next-right-requires : goal.assign-next-right-requires
+assign-next-right-requires t c = search (rules, room, assign_left)
+
+pub assign-kind-kind-requires : goal.assign-kind-kind-requires
+assign-kind-kind-requires t c = search (rules, room, assign_right)
+
+pub assign-assign_struct-requires : goal.assign-assign_struct-requires
+assign-assign_struct-requires t c = (search (rules, first_falls), (search rules, (search (rules, assign_left), (search (rules, assign_right), (search (rules, next_past, assign_left), search (rules, same_kind))))))
+
+pub assign-returns-then-kind-eq-STRUCT_INIT : goal.assign-returns-then-kind-eq-STRUCT_INIT
+assign-returns-then-kind-eq-STRUCT_INIT t c = struct_executes c.requires.n_value c.next-right.ensures c.kind-kind.ensures c.if-kind-eq-STRUCT_INIT.true c.assign_struct.ensures
+
+pub assign-operand-requires : goal.assign-operand-requires
+assign-operand-requires t c = search (rules, second_falls, assign_right)
+
+pub assign-returns-then-not-operand : goal.assign-returns-then-not-operand
+assign-returns-then-not-operand t c = val_fails c.requires.n_value c.next-right.ensures c.kind-kind.ensures c.if-kind-eq-STRUCT_INIT.false c.operand.ensures (ap not c.if-not-operand.true)
+
+pub assign-assign_val-requires : goal.assign-assign_val-requires
+assign-assign_val-requires t c = (first_falls _ _ 0 0 c.decreases c.requires.fine (omega arith), ((ready_on c.operand.ensures c.requires.ready_by.0 (ap not c.if-not-operand.false) (assign_right c.requires.n_value c.requires.fine c.next-right.ensures), c.requires.ready_by.1), assign_left c.requires.n_value c.requires.fine))
+
+pub assign-returns : goal.assign-returns
+assign-returns t c = val_executes c.requires.n_value c.next-right.ensures c.kind-kind.ensures c.if-kind-eq-STRUCT_INIT.false c.operand.ensures (ap not c.if-not-operand.false) c.assign_val.ensures
+
+pub assign_struct-kind-kind-requires : goal.assign_struct-kind-kind-requires
+assign_struct-kind-kind-requires t c = search (rules, room)
+
+pub assign_struct-ends-requires : goal.assign_struct-ends-requires
+assign_struct-ends-requires t c = search (rules, room_in)
+
+pub assign_struct-returns-then-kind-ne-DEREF : goal.assign_struct-returns-then-kind-ne-DEREF
+assign_struct-returns-then-kind-ne-DEREF t c = search (rules, odd_struct)
+
+pub assign_struct-overflow_add-left : goal.assign_struct-overflow_add-left
+assign_struct-overflow_add-left t c = search (rules, room)
+
+pub assign_struct-base-base-requires : goal.assign_struct-base-base-requires
+assign_struct-base-base-requires t c = search (rules, room, deref_kid, same_kind)
+
+pub assign_struct-evaluate-requires : goal.assign_struct-evaluate-requires
+assign_struct-evaluate-requires t c = (search (rules, right_falls, base_past), (search rules, base_fine c.base-base.ensures (deref_kid (same_kind c.kind-kind.ensures c.if-kind-ne-DEREF.false) c.requires.fine)))
+
+pub assign_struct-returns-then-not-evaluate : goal.assign_struct-returns-then-not-evaluate
+assign_struct-returns-then-not-evaluate t c = struct_fails c.kind-kind.ensures c.if-kind-ne-DEREF.false c.base-base.ensures c.evaluate.ensures.0 (ap not c.if-not-evaluate.true)
+
+pub assign_struct-store_struct-requires : goal.assign_struct-store_struct-requires
+assign_struct-store_struct-requires t c = (right_falls _ _ 0 0 c.decreases c.requires.fine c.requires.left_lt_right (omega arith), ((ready_on c.evaluate.ensures.0 c.requires.ready_by.0 (ap not c.if-not-evaluate.false) (base_fine c.base-base.ensures (deref_kid (same_kind c.kind-kind.ensures c.if-kind-ne-DEREF.false) c.requires.fine)), c.requires.ready_by.1), (c.requires.fine_2, c.requires.right_value)))
+
+pub assign_struct-returns : goal.assign_struct-returns
+assign_struct-returns t c = struct_assigns c.kind-kind.ensures c.if-kind-ne-DEREF.false c.base-base.ensures c.evaluate.ensures.0 (ap not c.if-not-evaluate.false) c.store_struct.ensures
+
+pub assign_val-value-v-requires : goal.assign_val-value-v-requires
+assign_val-value-v-requires t c = (search (rules, room_in), omega arith)
+
+pub assign_val-kind-kind-requires : goal.assign_val-kind-kind-requires
+assign_val-kind-kind-requires t c = search (rules, room)
+
+pub assign_val-write-requires : goal.assign_val-write-requires
+assign_val-write-requires t c = record { fit = search rules; symbols_read = search rules; fine = search rules; n_value = search (rules, same_kind) }
+
+pub assign_val-returns-then-kind-eq-VAR : goal.assign_val-returns-then-kind-eq-VAR
+assign_val-returns-then-kind-eq-VAR t c = write_assigns c.value-v.ensures c.write.ensures
+
+pub assign_val-ends-requires : goal.assign_val-ends-requires
+assign_val-ends-requires t c = search (rules, room_in)
+
+pub assign_val-returns-then-kind-ne-DEREF : goal.assign_val-returns-then-kind-ne-DEREF
+assign_val-returns-then-kind-ne-DEREF t c = search (rules, odd_assigns)
+
+pub assign_val-overflow_add-target : goal.assign_val-overflow_add-target
+assign_val-overflow_add-target t c = search (rules, room)
+
+pub assign_val-target_of-pointer-requires : goal.assign_val-target_of-pointer-requires
+assign_val-target_of-pointer-requires t c = record { workspace_size_in_bounds = search (rules, room_in); n_in_bounds = room (deref_kid (same_kind c.kind-kind.ensures c.if-kind-ne-DEREF.false) c.requires.fine); n_bound = λ e. cast_type e (deref_kid (same_kind c.kind-kind.ensures c.if-kind-ne-DEREF.false) c.requires.fine) }
+
+pub assign_val-evaluate-requires : goal.assign_val-evaluate-requires
+assign_val-evaluate-requires t c = (target_falls _ _ 3 c.decreases c.requires.fine c.target_of-pointer.ensures (omega arith), (c.requires.ready_by, target_fine c.target_of-pointer.ensures (deref_kid (same_kind c.kind-kind.ensures c.if-kind-ne-DEREF.false) c.requires.fine)))
+
+pub assign_val-returns-then-not-evaluate : goal.assign_val-returns-then-not-evaluate
+assign_val-returns-then-not-evaluate t c = store_fails c.kind-kind.ensures c.if-kind-ne-DEREF.false c.requires.fine c.value-v.ensures c.target_of-pointer.ensures c.evaluate.ensures.0 (ap not c.if-not-evaluate.true)
+
+pub assign_val-store-requires : goal.assign_val-store-requires
+assign_val-store-requires t c = (ready_on c.evaluate.ensures.0 c.requires.ready_by.0 (ap not c.if-not-evaluate.false) (target_fine c.target_of-pointer.ensures (deref_kid (same_kind c.kind-kind.ensures c.if-kind-ne-DEREF.false) c.requires.fine))).ready.fit
+
+pub assign_val-returns : goal.assign_val-returns
+assign_val-returns t c = store_assigns c.kind-kind.ensures c.if-kind-ne-DEREF.false c.requires.fine c.value-v.ensures c.target_of-pointer.ensures c.evaluate.ensures.0 c.store.result (ap not c.if-not-evaluate.false) c.store.ensures
+
+pub assigned-assign-requires : goal.assigned-assign-requires
+assigned-assign-requires t c = search (rules, assign_falls)
+
+pub assigned-returns-then-not-assign : goal.assigned-returns-then-not-assign
+assigned-returns-then-not-assign t c = (assigned_short c.assign.ensures c.requires.n_value (ap not c.if-not-assign.true), assigned_fails c.assign.ensures (ap not c.if-not-assign.true))
+
+pub assigned-value_of-requires : goal.assigned-value_of-requires
+assigned-value_of-requires t c = search (rules, room_after)
+
+pub assigned-returns : goal.assigned-returns
+assigned-returns t c = (assigned_evals c.assign.ensures c.requires.n_value (ap not c.if-not-assign.false) c.value_of.ensures, assigned_tells c.assign.ensures (ap not c.if-not-assign.false) c.value_of.ensures)
+
+pub binary-overflow_add-n : goal.binary-overflow_add-n
+binary-overflow_add-n t c = search (rules, room)
+
+pub binary-next-right-requires : goal.binary-next-right-requires
+binary-next-right-requires t c = search (rules, room, binary_left)
+
+pub binary-overflow_add-i : goal.binary-overflow_add-i
+binary-overflow_add-i t c = search (rules, room)
+
+pub binary-loop-left-init : goal.binary-loop-left-init
+binary-loop-left-init t c = search (rules, binary_start)
+
+pub binary-at_hand-hand-requires : goal.binary-at_hand-hand-requires
+binary-at_hand-hand-requires t c = search (rules, binary_fine)
+
+pub binary-evaluate-requires : goal.binary-evaluate-requires
+binary-evaluate-requires t c = let l = c.loop-left.invariant.0 in
+    (binary_falls l c.loop-left-test.true c.decreases, ((l.ready, c.requires.ready_by.1), binary_fine l c.loop-left-test.true))
+
+pub binary-returns-then-not-evaluate : goal.binary-returns-then-not-evaluate
+binary-returns-then-not-evaluate t c = search (rules, binary_stopped)
+
+pub binary-value-r-requires : goal.binary-value-r-requires
+binary-value-r-requires t c = search (rules, ready_on, binary_fine)
+
+pub binary-loop-left-preserved : goal.binary-loop-left-preserved
+binary-loop-left-preserved t c = let l = c.loop-left.invariant in
+    (
+      binary_next l.0 c.loop-left-test.true c.next-right.ensures
+          (⊎_elim (λ a. operand_at_hand c.at_hand-hand.ensures a.1.given.1 a.5 a.3 a.4) (λ a. operand_evaluated a.4.ensures.0 a.9.left a.11.ensures a.14 a.12 a.13) c.match-hand.branch),
+      ⊎_elim (λ a. ap length a.3 ∙ l.1) (λ a. ap length a.12 ∙ a.4.kept.1.1.1.0 ∙ l.1) c.match-hand.branch,
+      ⊎_elim (λ a. ap length a.4 ∙ l.2) (λ a. ap length a.13 ∙ a.4.kept.1.1.1.1.0 ∙ l.2) c.match-hand.branch,
+    )
+
+pub binary-operate-requires : goal.binary-operate-requires
+binary-operate-requires t c = search (rules, room)
+
+pub binary-returns : goal.binary-returns
+binary-returns t c = search (rules, binary_done)
+
+pub call-overflow_add-n : goal.call-overflow_add-n
+call-overflow_add-n t c = search (rules, room)
+
+pub call-next-first-requires : goal.call-next-first-requires
+call-next-first-requires t c = search (rules, room, call_callee)
+
+pub call-next-end-requires : goal.call-next-end-requires
+call-next-end-requires t c = search (rules, room)
+
+pub call-args-a-requires : goal.call-args-a-requires
+call-args-a-requires t c = (search (rules, second_falls), (search rules, (search (rules, call_args), search rules)))
+
+pub call-returns-then-not-a : goal.call-returns-then-not-a
+call-returns-then-not-a t c = call_short c.requires.n_value c.next-first.ensures c.next-end.ensures c.args-a.ensures (not-true _ c.if-not-a.true)
+
+pub call-called-requires : goal.call-called-requires
+call-called-requires t c = (
+      (args_ready c.args-a.ensures (not-false _ c.if-not-a.false) (call_args c.requires.n_value c.requires.fine c.next-first.ensures c.next-end.ensures) c.requires.ready_by.0).ready.fit.room,
+      (
+        c.requires.fine,
+        (
+          c.requires.n_value,
+          (
+            omega (arith, c.args-a.ensures.few),
+            search rules,
+          ),
+        ),
+      ),
+    )
+
+pub call-returns : goal.call-returns
+call-returns t c = call_evals c.requires.n_value c.next-first.ensures c.next-end.ensures c.args-a.ensures (not-false _ c.if-not-a.false) c.called.ensures
+
+pub cast-overflow_add-n : goal.cast-overflow_add-n
+cast-overflow_add-n t c = search (rules, room)
+
+pub cast-operand-requires : goal.cast-operand-requires
+cast-operand-requires t c = search (rules, first_falls, cast_kid)
+
+pub cast-returns-then-not-operand : goal.cast-returns-then-not-operand
+cast-returns-then-not-operand t c = search (rules, cast_short)
+
+pub cast-cast-requires : goal.cast-cast-requires
+cast-cast-requires t c = search (rules, room, cast_type)
+
+pub cast-returns : goal.cast-returns
+cast-returns t c = search (rules, cast_evals)
+
+pub deref-overflow_add-n : goal.deref-overflow_add-n
+deref-overflow_add-n t c = search (rules, room)
+
+pub deref-target_of-pointer-requires : goal.deref-target_of-pointer-requires
+deref-target_of-pointer-requires t c = search (rules, room, deref_kid, cast_type)
+
+pub deref-operand-requires : goal.deref-operand-requires
+deref-operand-requires t c = search (rules, target_falls, target_fine, deref_kid)
+
+pub deref-returns-then-not-operand : goal.deref-returns-then-not-operand
+deref-returns-then-not-operand t c = search (rules, deref_short)
+
+pub deref-unknown-requires : goal.deref-unknown-requires
+deref-unknown-requires t c = (deref_ready c.requires.n_value c.requires.fine c.target_of-pointer.ensures c.operand.ensures c.requires.ready_by.0 (ap not c.if-not-operand.false)).ready.fit.room
+
+pub deref-returns-then-not-address : goal.deref-returns-then-not-address
+deref-returns-then-not-address t c = deref_nowhere c.requires.n_value c.requires.fine c.target_of-pointer.ensures c.operand.ensures (ap not c.if-not-operand.false) c.value-address.ensures c.if-not-address.true c.unknown.ensures
+
+pub deref-load_at-requires : goal.deref-load_at-requires
+deref-load_at-requires t c = let ready = (deref_ready c.requires.n_value c.requires.fine c.target_of-pointer.ensures c.operand.ensures c.requires.ready_by.0 (ap not c.if-not-operand.false)).ready in record { fit = ready.fit; regions_indexed = (ready.regions, target_narrow c.requires.ready_by.0 (deref_kid c.requires.n_value c.requires.fine) c.target_of-pointer.ensures); bits_bound =  }
+
+pub deref-returns : goal.deref-returns
+deref-returns t c = deref_loads c.requires.n_value c.requires.fine c.target_of-pointer.ensures c.operand.ensures (ap not c.if-not-operand.false) c.value-address.ensures c.if-not-address.false c.load_at.ensures
+
+pub evaluate-kind-kind-requires : goal.evaluate-kind-kind-requires
+evaluate-kind-kind-requires t c = search (rules, room)
+
+pub evaluate-constant-requires : goal.evaluate-constant-requires
+evaluate-constant-requires t c = search (rules, room, constant_width)
+
+pub evaluate-variable-requires : goal.evaluate-variable-requires
+evaluate-variable-requires t c = search (rules, same_kind)
+
+pub evaluate-register-requires : goal.evaluate-register-requires
+evaluate-register-requires t c = search (rules, room)
+
+pub evaluate-decided-requires : goal.evaluate-decided-requires
+evaluate-decided-requires t c = search (rules, room)
+
+pub evaluate-cast-requires : goal.evaluate-cast-requires
+evaluate-cast-requires t c = (search (rules, kind_falls), (search rules, (search rules, search (rules, same_kind))))
+
+pub evaluate-deref-requires : goal.evaluate-deref-requires
+evaluate-deref-requires t c = (search (rules, kind_falls), (search rules, (search rules, search (rules, same_kind))))
+
+pub evaluate-overflow_add-n : goal.evaluate-overflow_add-n
+evaluate-overflow_add-n t c = search (rules, room)
+
+pub evaluate-address-requires : goal.evaluate-address-requires
+evaluate-address-requires t c = record { workspace_size_in_bounds = search rules; symbols_read = c.requires.ready_by.0.ready.symbols; fine = search (rules, address_kid, same_kind) }
+
+pub evaluate-ternary-requires : goal.evaluate-ternary-requires
+evaluate-ternary-requires t c = (search (rules, kind_falls), (search rules, (search rules, search (rules, same_kind))))
+
+pub evaluate-binary-requires : goal.evaluate-binary-requires
+evaluate-binary-requires t c = (search (rules, kind_falls), (search rules, (search rules, search (rules, same_kind))))
+
+pub evaluate-assigned-requires : goal.evaluate-assigned-requires
+evaluate-assigned-requires t c = (search (rules, assigned_falls), (search rules, (search rules, search (rules, same_kind))))
+
+pub evaluate-call-requires : goal.evaluate-call-requires
+evaluate-call-requires t c = (search (rules, kind_falls), (search rules, (search rules, search (rules, same_kind))))
+
+pub evaluate-intrinsic-requires : goal.evaluate-intrinsic-requires
+evaluate-intrinsic-requires t c = (search (rules, kind_falls), (search rules, (search rules, search (rules, same_kind))))
+
+pub evaluate-returned-requires : goal.evaluate-returned-requires
+evaluate-returned-requires t c = (search (rules, kind_falls), (search rules, (search rules, search (rules, same_kind))))
+
+pub evaluate-returns-in-0 : goal.evaluate-returns-in-0
+evaluate-returns-in-0 t c = alone 0 refl (search (rules, same_kind)) (search (rules, constant_evals))
+
+pub evaluate-returns-in-1 : goal.evaluate-returns-in-1
+evaluate-returns-in-1 t c = alone 1 refl (search (rules, same_kind)) (search (rules, var_evals))
+
+pub evaluate-returns-in-2 : goal.evaluate-returns-in-2
+evaluate-returns-in-2 t c = alone 2 refl (search (rules, same_kind)) (search (rules, register_evals))
+
+pub evaluate-returns-in-3 : goal.evaluate-returns-in-3
+evaluate-returns-in-3 t c = alone 3 refl (search (rules, same_kind)) (search (rules, string_evals))
+
+pub evaluate-returns-in-4 : goal.evaluate-returns-in-4
+evaluate-returns-in-4 t c = alone 4 refl (search (rules, same_kind)) (search (rules, function_evals))
+
+pub evaluate-returns-in-5 : goal.evaluate-returns-in-5
+evaluate-returns-in-5 t c = alone 5 refl (search (rules, same_kind)) (search (rules, true_evals))
+
+pub evaluate-returns-in-6 : goal.evaluate-returns-in-6
+evaluate-returns-in-6 t c = alone 6 refl (search (rules, same_kind)) (search (rules, false_evals))
+
+pub evaluate-returns-in-7 : goal.evaluate-returns-in-7
+evaluate-returns-in-7 t c = alone 7 refl (search (rules, same_kind)) (search (rules, decided_evals))
+
+pub evaluate-returns-in-8 : goal.evaluate-returns-in-8
+evaluate-returns-in-8 t c = alone 8 refl (search (rules, same_kind)) (search rules)
+
+pub evaluate-returns-in-9 : goal.evaluate-returns-in-9
+evaluate-returns-in-9 t c = alone 9 refl (search (rules, same_kind)) (search rules)
+
+pub evaluate-returns-in-10 : goal.evaluate-returns-in-10
+evaluate-returns-in-10 t c = alone 10 refl (search (rules, same_kind)) (search (rules, address_evals))
+
+pub evaluate-returns-in-11 : goal.evaluate-returns-in-11
+evaluate-returns-in-11 t c = alone 11 refl (search (rules, same_kind)) (search rules)
+
+pub evaluate-returns-in-12 : goal.evaluate-returns-in-12
+evaluate-returns-in-12 t c = alone 12 refl (search (rules, same_kind)) (search rules)
+
+pub evaluate-returns-in-13 : goal.evaluate-returns-in-13
+evaluate-returns-in-13 t c = (search rules, λ _. search rules)
+
+pub evaluate-returns-in-14 : goal.evaluate-returns-in-14
+evaluate-returns-in-14 t c = alone 14 refl (search (rules, same_kind)) (search rules)
+
+pub evaluate-returns-in-15 : goal.evaluate-returns-in-15
+evaluate-returns-in-15 t c = alone 15 refl (search (rules, same_kind)) (search rules)
+
+pub evaluate-returns-in-16 : goal.evaluate-returns-in-16
+evaluate-returns-in-16 t c = alone 16 refl (search (rules, same_kind)) (search rules)
+
+pub evaluate-returns-in-17 : goal.evaluate-returns-in-17
+evaluate-returns-in-17 t c = alone 17 refl (search (rules, same_kind)) (search (rules, struct_evals))
+
+pub evaluate-returns-in_default : goal.evaluate-returns-in_default
+evaluate-returns-in_default t c = last_evals c.kind-kind.ensures c.requires.fine (search rules) c.unknown-in_default.ensures
+
+pub intrinsic-next-end-requires : goal.intrinsic-next-end-requires
+intrinsic-next-end-requires t c = search (rules, room)
+
+pub intrinsic-overflow_add-n : goal.intrinsic-overflow_add-n
+intrinsic-overflow_add-n t c = search (rules, room)
+
+pub intrinsic-kids-requires : goal.intrinsic-kids-requires
+intrinsic-kids-requires t c = search (rules, first_falls, intrinsic_kids)
+
+pub intrinsic-returns : goal.intrinsic-returns
+intrinsic-returns t c = search (rules, intrinsic_evals)
+
+pub kids-loop-i-init : goal.kids-loop-i-init
+kids-loop-i-init t c = search (rules, kids_start)
+
+pub kids-next-more-requires : goal.kids-next-more-requires
+kids-next-more-requires t c = search (rules, room, kid_here)
+
+pub kids-at_hand-hand-requires : goal.kids-at_hand-hand-requires
+kids-at_hand-hand-requires t c = search (rules, kid_here)
+
+pub kids-evaluate-requires : goal.kids-evaluate-requires
+kids-evaluate-requires t c = search (rules, here_falls, kid_here)
+
+pub kids-returns-then-not-evaluate : goal.kids-returns-then-not-evaluate
+kids-returns-then-not-evaluate t c = search (rules, kids_stopped)
+
+pub kids-loop-i-smaller-in-Set : goal.kids-loop-i-smaller-in-Set
+kids-loop-i-smaller-in-Set t c = search (rules, kids_less)
+
+pub kids-loop-i-preserved-in-Set : goal.kids-loop-i-preserved-in-Set
+kids-loop-i-preserved-in-Set t c = search (rules, kids_skipped)
+
+pub kids-loop-i-smaller : goal.kids-loop-i-smaller
+kids-loop-i-smaller t c = search (rules, kids_less)
+
+pub kids-loop-i-preserved : goal.kids-loop-i-preserved
+kids-loop-i-preserved t c = search (rules, kids_next)
+
+pub kids-returns : goal.kids-returns
+kids-returns t c = search (rules, kids_done)
+
+pub operand-evaluate-requires : goal.operand-evaluate-requires
+operand-evaluate-requires t c = search (rules, operand_falls)
+
+pub operand-returns-in-Set : goal.operand-returns-in-Set
+operand-returns-in-Set t c = search (rules, at_hand_evals)
+
+pub returned-next-end-requires : goal.returned-next-end-requires
+returned-next-end-requires t c = search (rules, room)
+
+pub returned-overflow_add-n : goal.returned-overflow_add-n
+returned-overflow_add-n t c = search (rules, room)
+
+pub returned-overflow_add-n-else-end-n : goal.returned-overflow_add-n-else-end-n
+returned-overflow_add-n-else-end-n t c = search (rules, room)
+
+pub returned-evaluate-requires : goal.returned-evaluate-requires
+returned-evaluate-requires t c = search (rules, first_falls, returned_kid)
+
+pub returned-returns-then-end-n : goal.returned-returns-then-end-n
+returned-returns-then-end-n t c = search (rules, returned_nothing)
+
+pub returned-returns-else-end-n : goal.returned-returns-else-end-n
+returned-returns-else-end-n t c = search (rules, returned_evals)
+
+pub store_fields-loop-i-init : goal.store_fields-loop-i-init
+store_fields-loop-i-init t c = search (rules, fields_start)
+
+pub store_fields-next-more-requires : goal.store_fields-next-more-requires
+store_fields-next-more-requires t c = search (rules, field_room)
+
+pub store_fields-overflow_add-i : goal.store_fields-overflow_add-i
+store_fields-overflow_add-i t c = let i = field_inside c.loop-i-test.true c.loop-i.invariant.0.fine in
+    omega (arith, i.some, c.next-more.ensures, c.next-more.type-inv)
+
+pub store_fields-evaluate-requires : goal.store_fields-evaluate-requires
+store_fields-evaluate-requires t c = (field_falls _ _ 0 3 c.decreases c.loop-i.invariant.0.past c.loop-i-test.true c.loop-i.invariant.0.fine (omega arith), ((c.loop-i.invariant.0.ready, c.requires.ready_by.1), field_kid c.loop-i-test.true c.loop-i.invariant.0.fine))
+
+pub store_fields-returns-then-not-evaluate : goal.store_fields-returns-then-not-evaluate
+store_fields-returns-then-not-evaluate t c = fields_stopped c.loop-i.invariant.0 c.loop-i-test.true c.evaluate.ensures.0 (ap not c.if-not-evaluate.true)
+
+pub store_fields-store_field-requires : goal.store_fields-store_field-requires
+store_fields-store_field-requires t c = record { fit = (ready_on c.evaluate.ensures.0 c.loop-i.invariant.0.ready (ap not c.if-not-evaluate.false) (field_kid c.loop-i-test.true c.loop-i.invariant.0.fine)).ready.fit; n_in_bounds = field_room c.loop-i-test.true c.loop-i.invariant.0.fine; n_bound = field_type c.loop-i-test.true c.loop-i.invariant.0.fine }
+
+pub store_fields-returns-then-not-store_field : goal.store_fields-returns-then-not-store_field
+store_fields-returns-then-not-store_field t c = field_stopped c.loop-i.invariant.0 c.loop-i-test.true c.evaluate.ensures.0 (ap not c.if-not-evaluate.false) c.store_field.result c.store_field.ensures (ap not c.if-not-store_field.true)
+
+pub store_fields-loop-i-smaller : goal.store_fields-loop-i-smaller
+store_fields-loop-i-smaller t c = fields_less c.loop-i.invariant.0 c.loop-i-test.true c.next-more.ensures
+
+pub store_fields-loop-i-preserved : goal.store_fields-loop-i-preserved
+store_fields-loop-i-preserved t c = (fields_next c.loop-i.invariant.0 c.loop-i-test.true c.evaluate.ensures.0 (ap not c.if-not-evaluate.false) c.store_field.result c.store_field.ensures (ap not c.if-not-store_field.false) c.next-more.ensures, c.store_field.auto.ws ∙ c.evaluate.auto.ws ∙ c.loop-i.invariant.1, c.evaluate.auto.out ∙ c.loop-i.invariant.2)
+
+pub store_fields-returns : goal.store_fields-returns
+store_fields-returns t c = search (rules, fields_done)
+
+pub store_struct-value-v-requires : goal.store_struct-value-v-requires
+store_struct-value-v-requires t c = (search (rules, room_in), omega arith)
+
+pub store_struct-ends-requires : goal.store_struct-ends-requires
+store_struct-ends-requires t c = search (rules, room_in)
+
+pub store_struct-returns-then-not-v : goal.store_struct-returns-then-not-v
+store_struct-returns-then-not-v t c = unknown_stores c.value-v.ensures (not-true _ c.if-not-v.true) c.ends.ensures
+
+pub store_struct-overflow_add-first : goal.store_struct-overflow_add-first
+store_struct-overflow_add-first t c = search (rules, room)
+
+pub store_struct-next-end-requires : goal.store_struct-next-end-requires
+store_struct-next-end-requires t c = search (rules, room)
+
+pub store_struct-store_fields-requires : goal.store_struct-store_fields-requires
+store_struct-store_fields-requires t c = search (rules, first_falls, struct_fields)
+
+pub store_struct-returns-then-not-store_fields : goal.store_struct-returns-then-not-store_fields
+store_struct-returns-then-not-store_fields t c = known_fails c.value-v.ensures (not-false _ c.if-not-v.false) c.requires.right_value c.next-end.ensures c.store_fields.ensures (ap not c.if-not-store_fields.true)
+
+pub store_struct-built-requires : goal.store_struct-built-requires
+store_struct-built-requires t c = record { workspace_size_in_bounds = search (rules, room_after); fine_fields = struct_fields c.requires.right_value c.requires.fine c.next-end.ensures }
+
+pub store_struct-returns : goal.store_struct-returns
+store_struct-returns t c = known_stores c.value-v.ensures (not-false _ c.if-not-v.false) c.requires.right_value c.next-end.ensures c.store_fields.ensures (ap not c.if-not-store_fields.false) c.built.ensures
+
+pub ternary-overflow_add-i : goal.ternary-overflow_add-i
+ternary-overflow_add-i t c = search (rules, room)
+
+pub ternary-loop-left-init : goal.ternary-loop-left-init
+ternary-loop-left-init t c = search (rules, ternary_start)
+
+pub ternary-evaluate-requires : goal.ternary-evaluate-requires
+ternary-evaluate-requires t c = search (rules, ternary_falls, ternary_fine)
+
+pub ternary-returns-then-not-evaluate : goal.ternary-returns-then-not-evaluate
+ternary-returns-then-not-evaluate t c = search (rules, ternary_stopped)
+
+pub ternary-next-i-requires : goal.ternary-next-i-requires
+ternary-next-i-requires t c = room (ternary_fine c.loop-left.invariant.0 c.loop-left-test.true)
+
+pub ternary-loop-left-preserved : goal.ternary-loop-left-preserved
+ternary-loop-left-preserved t c = search (rules, ternary_next)
+
+pub ternary-returns : goal.ternary-returns
+ternary-returns t c = search (rules, ternary_done)
