@@ -19,7 +19,10 @@ use lib.ListN.{length}
 use mathlib.Core.Logic.{⊎_elim}
 use mathlib.Core.Path.{◌∙◌, ap, refl}
 use native.Mathlib.Omega.{arith}
+use Rattle.std.proofs.Common.{not}
+use Rattle.machine.proofs.Evaluating.{Valued}
 use Rattle.machine.proofs.+evaluation.Goals as goal
+use Rattle.machine.proofs.+evaluation.Goals.{binary-in-Set, binary-in-Unset+else-not-evaluate}
 
 pub args-loop-i-init : goal.args-loop-i-init
 args-loop-i-init t c = search (rules, args_start)
@@ -47,11 +50,11 @@ args-loop-i-smaller t c = args_less c.loop-i.invariant.0 c.loop-i-test.true c.ne
 
 pub args-loop-i-preserved : goal.args-loop-i-preserved
 args-loop-i-preserved t c = let l = c.loop-i.invariant in (
-      args_next l.0 c.loop-i-test.true c.evaluate.ensures.0 (not-false _ (ap not c.if-not-evaluate.false)) c.next-more.ensures c.value-v.ensures c.put_val.ensures c.put_val.auto.vals,
-      c.evaluate.auto.ws ∙ l.1,
-      c.evaluate.auto.out ∙ l.2,
-      c.put_val.auto.vals ∙ l.3,
-    )
+  args_next l.0 c.loop-i-test.true c.evaluate.ensures.0 (not-false _ (ap not c.if-not-evaluate.false)) c.next-more.ensures c.value-v.ensures c.put_val.ensures c.put_val.auto.vals,
+  c.evaluate.auto.ws ∙ l.1,
+  c.evaluate.auto.out ∙ l.2,
+  c.put_val.auto.vals ∙ l.3,
+)
 
 pub args-returns : goal.args-returns
 args-returns t c = search (rules, args_done)
@@ -184,13 +187,17 @@ pub binary-value-r-requires : goal.binary-value-r-requires
 binary-value-r-requires t c = search (rules, ready_on, binary_fine)
 
 pub binary-loop-left-preserved : goal.binary-loop-left-preserved
-binary-loop-left-preserved t c = let l = c.loop-left.invariant in
-    (
-      binary_next l.0 c.loop-left-test.true c.next-right.ensures
-          (⊎_elim (λ a. operand_at_hand c.at_hand-hand.ensures a.1.given.1 a.5 a.3 a.4) (λ a. operand_evaluated a.4.ensures.0 a.9.left a.11.ensures a.14 a.12 a.13) c.match-hand.branch),
-      ⊎_elim (λ a. ap length a.3 ∙ l.1) (λ a. ap length a.12 ∙ a.4.kept.1.1.1.0 ∙ l.1) c.match-hand.branch,
-      ⊎_elim (λ a. ap length a.4 ∙ l.2) (λ a. ap length a.13 ∙ a.4.kept.1.1.1.1.0 ∙ l.2) c.match-hand.branch,
-    )
+binary-loop-left-preserved t c =
+    let l = c.loop-left.invariant in
+    let x = c.args in
+    let valued : Valued x.nodes.now.now x.symbols.now.now x.regions.now.now c.loop-left.i c.loop-left.ws c.loop-left.out c.match-hand.r c.match-hand.ws c.match-hand.out =
+        elim c.match-hand.branch [
+          | binary-in-Set w ↦ operand_at_hand c.at_hand-hand.ensures w.in-Set.is w.r-is w.ws-is w.out-is
+          | binary-in-Unset+else-not-evaluate w ↦
+              operand_evaluated w.evaluate.ensures.0 (ap not w.if-not-evaluate.false) w.value-r.ensures w.r-is w.ws-is w.out-is
+        ]
+    in
+    (binary_next l.0 c.loop-left-test.true c.next-right.ensures valued, omega arith, omega arith)
 
 pub binary-operate-requires : goal.binary-operate-requires
 binary-operate-requires t c = search (rules, room)
@@ -214,19 +221,7 @@ pub call-returns-then-not-a : goal.call-returns-then-not-a
 call-returns-then-not-a t c = call_short c.requires.n_value c.next-first.ensures c.next-end.ensures c.args-a.ensures (not-true _ c.if-not-a.true)
 
 pub call-called-requires : goal.call-called-requires
-call-called-requires t c = (
-      (args_ready c.args-a.ensures (not-false _ c.if-not-a.false) (call_args c.requires.n_value c.requires.fine c.next-first.ensures c.next-end.ensures) c.requires.ready_by.0).ready.fit.room,
-      (
-        c.requires.fine,
-        (
-          c.requires.n_value,
-          (
-            omega (arith, c.args-a.ensures.few),
-            search rules,
-          ),
-        ),
-      ),
-    )
+call-called-requires t c = record { workspace_size_in_bounds = (args_ready c.args-a.ensures (not-false _ c.if-not-a.false) (call_args c.requires.n_value c.requires.fine c.next-first.ensures c.next-end.ensures) c.requires.ready_by.0).ready.fit.room; fine = c.requires.fine; n_value = c.requires.n_value; count_bound = omega (arith, c.args-a.ensures.few); vals_len = search rules }
 
 pub call-returns : goal.call-returns
 call-returns t c = call_evals c.requires.n_value c.next-first.ensures c.next-end.ensures c.args-a.ensures (not-false _ c.if-not-a.false) c.called.ensures
@@ -265,7 +260,7 @@ pub deref-returns-then-not-address : goal.deref-returns-then-not-address
 deref-returns-then-not-address t c = deref_nowhere c.requires.n_value c.requires.fine c.target_of-pointer.ensures c.operand.ensures (ap not c.if-not-operand.false) c.value-address.ensures c.if-not-address.true c.unknown.ensures
 
 pub deref-load_at-requires : goal.deref-load_at-requires
-deref-load_at-requires t c = let ready = (deref_ready c.requires.n_value c.requires.fine c.target_of-pointer.ensures c.operand.ensures c.requires.ready_by.0 (ap not c.if-not-operand.false)).ready in record { fit = ready.fit; regions_indexed = (ready.regions, target_narrow c.requires.ready_by.0 (deref_kid c.requires.n_value c.requires.fine) c.target_of-pointer.ensures); bits_bound =  }
+deref-load_at-requires t c = let ready = (deref_ready c.requires.n_value c.requires.fine c.target_of-pointer.ensures c.operand.ensures c.requires.ready_by.0 (ap not c.if-not-operand.false)).ready in record { fit = ready.fit; regions_indexed = ready.regions; bits_bound = target_narrow c.requires.ready_by.0 (deref_kid c.requires.n_value c.requires.fine) c.target_of-pointer.ensures }
 
 pub deref-returns : goal.deref-returns
 deref-returns t c = deref_loads c.requires.n_value c.requires.fine c.target_of-pointer.ensures c.operand.ensures (ap not c.if-not-operand.false) c.value-address.ensures c.if-not-address.false c.load_at.ensures
@@ -446,7 +441,7 @@ store_fields-next-more-requires t c = search (rules, field_room)
 
 pub store_fields-overflow_add-i : goal.store_fields-overflow_add-i
 store_fields-overflow_add-i t c = let i = field_inside c.loop-i-test.true c.loop-i.invariant.0.fine in
-    omega (arith, i.some, c.next-more.ensures, c.next-more.type-inv)
+    omega (arith, i.some, c.next-more.ensures, c.next-more.type_inv)
 
 pub store_fields-evaluate-requires : goal.store_fields-evaluate-requires
 store_fields-evaluate-requires t c = (field_falls _ _ 0 3 c.decreases c.loop-i.invariant.0.past c.loop-i-test.true c.loop-i.invariant.0.fine (omega arith), ((c.loop-i.invariant.0.ready, c.requires.ready_by.1), field_kid c.loop-i-test.true c.loop-i.invariant.0.fine))
