@@ -20,7 +20,7 @@ pub body-regions-requires : goal.body-regions-requires
 body-regions-requires c = search (rules, world_body)
 
 pub walk-requires : goal.walk-requires
-walk-requires c = let t = c.requires.tabled in record { ready = walk_ready _ _ c.body-nodes.ensures c.body-symbols.ensures c.body-regions.ensures c.no_counts-at.ensures t.0 t.1; rooted = (walk_rooted c.body-nodes.ensures c.body-statements.ensures c.body-blocks.ensures t.0, walk_balanced c.no_counts-at.ensures (omega (arith, c))); balanced =  }
+walk-requires c = let t = c.requires.tabled in record { ready = walk_ready _ _ c.body-nodes.ensures c.body-symbols.ensures c.body-regions.ensures c.no_counts-at.ensures t.0 t.1; rooted = walk_rooted c.body-nodes.ensures c.body-statements.ensures c.body-blocks.ensures t.0; balanced = walk_balanced c.no_counts-at.ensures (omega (arith, c)) }
 
 pub returns : goal.returns
 returns c = search (rules, walk_told)

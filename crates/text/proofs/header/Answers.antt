@@ -11,7 +11,7 @@ use Rattle.text.proofs.header.Goals as goal
 pub returns : goal.returns
 unfolding header_text
 returns c = (
-      put_as (put_after (text "; ") (name_text (texts_in c.args.names.now) c.get16-name.result) c.put_name-end.ensures.0 c.put_numbered.ensures.0)
-          (ap₂ (λ (n a : ℕ). header_text (texts_in c.args.names.now) n a) c.get16-name.ensures.0 c.get64.ensures),
-      search rules,
-    )
+  put_as (put_after (text "; ") (name_text (texts_in c.args.names.now) c.get16-name.result) c.put_name-end.ensures.0 c.put_numbered.ensures.0)
+      (ap₂ (λ (n a : ℕ). header_text (texts_in c.args.names.now) n a) c.get16-name.ensures.0 c.get64.ensures),
+  search rules,
+)

@@ -17,7 +17,7 @@ put_named-named-requires c = record { texts_indexed = (search rules, variable_na
 pub returns : goal.returns
 unfolding variable_line
 returns c = (
-      put_as (put_third (text ";   ") (name_text (texts_in c.args.names.now) c.get16-name.result) (text " = ") c.put_named-named.ensures.0 (put_then c.put_value-end.ensures.0 c.put_text.ensures))
-          (ap₂ (λ (n : ℕ) (v : Val). variable_line (texts_in c.args.names.now) (n, v)) c.get16-name.ensures.0 c.get_val.ensures),
-      omega (arith, c.put_text.ensures.end),
-    )
+  put_as (put_third (text ";   ") (name_text (texts_in c.args.names.now) c.get16-name.result) (text " = ") c.put_named-named.ensures.0 (put_then c.put_value-end.ensures.0 c.put_text.ensures))
+      (ap₂ (λ (n : ℕ) (v : Val). variable_line (texts_in c.args.names.now) (n, v)) c.get16-name.ensures.0 c.get_val.ensures),
+  omega (arith, c.put_text.ensures.end),
+)

@@ -19,4 +19,4 @@ pub put_step-length-requires : goal.put_step-length-requires
 put_step-length-requires c = record { texts_indexed = (search rules, subst (λ (l : List ℕ). StepThere (text_count c.args.names.now) l) (sym (rest_of c.args.steps.now c.args.at)) (search rules)); in_bounds = search rules }
 
 pub returns : goal.returns
-returns c = record { put = (put_as c.put_step-length.ensures.0 (ap (λ (l : List ℕ). step_text (texts_in c.args.names.now) (step_in l)) (rest_of c.args.steps.now c.args.at)), c.put_step-length.ensures.1); next_value = (ap (λ (n : ℕ). c.args.at + n) (c.step_size.ensures.0 ∙ ap step_size (rest_of c.args.steps.now c.args.at)), ) }
+returns c = record { put = (put_as c.put_step-length.ensures.0 (ap (λ (l : List ℕ). step_text (texts_in c.args.names.now) (step_in l)) (rest_of c.args.steps.now c.args.at)), c.put_step-length.ensures.1); next_value = ap (λ (n : ℕ). c.args.at + n) (c.step_size.ensures.0 ∙ ap step_size (rest_of c.args.steps.now c.args.at)) }

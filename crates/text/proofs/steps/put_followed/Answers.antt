@@ -9,7 +9,7 @@ returns-then-count-eq0 c = (put_as c.put_text.ensures (followed_none (texts_in c
 
 pub returns : goal.returns
 returns c = (
-      put_as (put_then c.put_text-start.ensures (put_then c.put_names-end.ensures.0 c.put_text-2.ensures))
-          (followed_some (texts_in c.args.names.now) c.args.step.now c.get16-count.ensures.0 c.if-count-eq0.false),
-      search rules,
-    )
+  put_as (put_then c.put_text-start.ensures (put_then c.put_names-end.ensures.0 c.put_text-2.ensures))
+      (followed_some (texts_in c.args.names.now) c.args.step.now c.get16-count.ensures.0 c.if-count-eq0.false),
+  search rules,
+)

@@ -6,7 +6,7 @@ use Prim.Native.Nat.{◌+◌, ◌-◌, ◌*◌, ◌≤◌}
 use Rattle.text.proofs.steps.put_names.Given as goal
 
 abbrev pub invariant-loop-k : goal.invariant-loop-k
-invariant-loop-k l = ((1 ≤ k) × (k ≤ l.count)) × ((l.k ≤ l.at + 257 * k) × (NamesLeft (texts_in l.names) l.step l.count l.initial.out l.initial.end l.end l.k k))
+invariant-loop-k l = ((1 ≤ l.k) × (l.k ≤ l.count)) × ((l.end ≤ l.at + 257 * l.k) × (NamesLeft (texts_in l.names) l.step l.count l.initial.out l.initial.end l.out l.end l.k))
 
 abbrev pub decreases-loop-k : goal.decreases-loop-k
-decreases-loop-k l = l.count - k
+decreases-loop-k l = l.count - l.k

@@ -11,7 +11,7 @@ use Rattle.text.proofs.steps.put_place.Goals as goal
 
 pub returns : goal.returns
 returns c = (
-      put_after (text "  ") (address_text [] (address_in c.args.step.now 0)) c.put_address-end.ensures.0
-          (put_as c.put_led.ensures.0 (ap (λ (n : ℕ). text "  " ++ decimal n) c.get32.ensures.0)),
-      search rules,
-    )
+  put_after (text "  ") (address_text [] (address_in c.args.step.now 0)) c.put_address-end.ensures.0
+      (put_as c.put_led.ensures.0 (ap (λ (n : ℕ). text "  " ++ decimal n) c.get32.ensures.0)),
+  search rules,
+)

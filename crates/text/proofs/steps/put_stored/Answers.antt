@@ -10,7 +10,7 @@ use Rattle.text.proofs.steps.put_stored.Goals as goal
 
 pub returns : goal.returns
 returns c = (
-      put_as (put_then c.put_text-start.ensures (put_then c.put_value-end.ensures.0 c.put_led.ensures.0))
-          (ap₂ (λ (v : Val) (a : ℕ). note_text [] (value_written a v)) c.get_val.ensures c.get64.ensures),
-      search rules,
-    )
+  put_as (put_then c.put_text-start.ensures (put_then c.put_value-end.ensures.0 c.put_led.ensures.0))
+      (ap₂ (λ (v : Val) (a : ℕ). note_text [] (value_written a v)) c.get_val.ensures c.get64.ensures),
+  search rules,
+)

@@ -15,7 +15,7 @@ put_named-end-requires c = record { texts_indexed = (search rules, wrote_named c
 
 pub returns : goal.returns
 returns c = (
-      put_of (wrote_text (texts_in c.args.names.now)) (wrote_some c.args.step.now c.get8.ensures.0 c.if-get8-eq0.false c.get16-name.ensures.0 c.get_val.ensures)
-          (put_third (text "  ; ") (name_text (texts_in c.args.names.now) c.get16-name.result) (text " = ") c.put_named-end.ensures.0 c.put_value.ensures.0),
-      omega (arith, c.put_named-end.ensures.1, c.put_value.ensures.1),
-    )
+  put_of (wrote_text (texts_in c.args.names.now)) (wrote_some c.args.step.now c.get8.ensures.0 c.if-get8-eq0.false c.get16-name.ensures.0 c.get_val.ensures)
+      (put_third (text "  ; ") (name_text (texts_in c.args.names.now) c.get16-name.result) (text " = ") c.put_named-end.ensures.0 c.put_value.ensures.0),
+  omega (arith, c.put_named-end.ensures.1, c.put_value.ensures.1),
+)
