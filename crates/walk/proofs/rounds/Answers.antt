@@ -6,12 +6,6 @@ use Rattle.walk.proofs.rounds.Goals as goal
 pub loop-spot-init : goal.loop-spot-init
 loop-spot-init c = search (rules, begins)
 
--- LEFT same_length
--- c.before.before.before.before.before.before.loop.invariant.0
-
--- LEFT same-length-2
--- c.before.before.before.before.before.before.loop.invariant.1.0
-
 pub returns-then-left-eq0 : goal.returns-then-left-eq0
 returns-then-left-eq0 c = stops_spent c.loop-spot.invariant.1.1 c.loop-spot-test.true (omega (arith, c.if-left-eq0.true, c.left.ensures))
 
@@ -28,12 +22,6 @@ loop-spot-smaller c = search (rules, goes_less)
 pub loop-spot-preserved : goal.loop-spot-preserved
 loop-spot-preserved c = let inv = c.loop-spot.invariant in
     (search rules, (search rules, goes_on inv.1.1 c.turn-next.ensures c.in-Goes.is))
-
--- LEFT same-length-5
--- c.before.before.before.loop.invariant.0
-
--- LEFT same-length-6
--- c.before.before.before.loop.invariant.1.0
 
 pub returns : goal.returns
 returns c = search (rules, stops_missing)

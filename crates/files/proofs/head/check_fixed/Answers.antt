@@ -3,7 +3,7 @@ use Rattle.files.specs.Head.{fixed_ok}
 use Rattle.files.proofs.head.check_fixed.Goals as goal
 
 pub overflow_cast-result : goal.overflow_cast-result
-overflow_cast-result c = omega (arith, c.shared_slice_known-1.given 12)
+overflow_cast-result c = omega (arith, c.type_inv.b 12)
 
 pub returns : goal.returns
 unfolding fixed_ok

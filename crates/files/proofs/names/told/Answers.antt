@@ -2,8 +2,5 @@ use mathlib.Core.Path.{refl}
 use native.Mathlib.Omega.{arith}
 use Rattle.files.proofs.names.told.Goals as goal
 
--- LEFT cast-result
--- omega (arith, c.shared-slice-known.given c.before.args.i)
-
 pub returns : goal.returns
-returns c = (refl, omega (arith, c.shared_slice_known-1.given c.args.i))
+returns c = (refl, omega (arith, c.type_inv.b c.args.i))

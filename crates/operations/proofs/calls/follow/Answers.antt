@@ -12,15 +12,6 @@ returns-then-word-eq0 c = search (rules, follows_limit)
 pub set_word-requires : goal.set_word-requires
 set_word-requires c = sent_room c.args.ws.now c.question_call.ensures c.requires.workspace_size_in_bounds
 
--- LEFT same-length-2
--- let at_set_word = c.before.before in
---     let at_kept = at_set_word.before.before.before.before in
---     let at_word = at_kept.before.before.before.before.before.before in
---     let at_if2 = at_word.before.before.before.before.before.before in
---     let at_kind = at_if2.before.before.before.before in
---     let start = at_kind.before.before.before.before.before in
---     at_set_word.set_word.ensures.aside.size ∙ sent_size start.args.ws.now at_kept.question-call2.ensures
-
 pub returns : goal.returns
 returns c = follows_asked c.kind.ensures c.if-kind-ne-FUNCTION_NAME.false c.word.ensures c.if-word-eq0.false c.requires.count_bound
     c.reference-name.ensures.0 c.reference-name.ensures.1 c.value-address.ensures (search rules)

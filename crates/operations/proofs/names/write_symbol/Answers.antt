@@ -22,7 +22,7 @@ pub returns-then-not-store_value : goal.returns-then-not-store_value
 returns-then-not-store_value c = symbol_unstored _ c.ask_address-a.ensures c.reference-name.ensures.0 c.if-not-a.false c.ask_size-s.ensures _ c.width_of-bits.ensures.0 c.if-bits-eq0.false c.cast-c.ensures c.store_value.result c.store_value.ensures (ap not c.if-not-store_value.true)
 
 pub wrote-requires-2 : goal.wrote-requires-2
-wrote-requires-2 c = search (rules, c.ws-3-1, sized_room c.ask_address-a.ensures c.ask_size-s.ensures c.requires.fit.room)
+wrote-requires-2 c = search (rules, sized_room c.ask_address-a.ensures c.ask_size-s.ensures c.requires.fit.room)
 
 pub returns : goal.returns
 returns c = symbol_stores _ c.ask_address-a.ensures c.reference-name.ensures.0 c.if-not-a.false c.ask_size-s.ensures _ c.width_of-bits.ensures.0 c.if-bits-eq0.false c.cast-c.ensures c.store_value.result c.store_value.ensures (ap not c.if-not-store_value.false) c.wrote-2.ensures

@@ -6,5 +6,5 @@ use Rattle.workspace.proofs.note.names.Goals as goal
 
 pub returns : goal.returns
 returns c = let w = c.args.ws.now in
-    let all : Bytes w = each_byte w (λ i. (c.shared_slice_known-1.given i).fits) in
+    let all : Bytes w = each_byte w (λ i. (c.type_inv.ws i).fits) in
     search (rules, names_there, all)
