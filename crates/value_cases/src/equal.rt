@@ -3,6 +3,7 @@
 ghost use Rattle.std.specs.Prelude.{◌<◌, ◌≤◌};
 
 use crate::rows::Expected;
+use std::io::Read;
 use value::{BinaryOp, Val};
 
 // A group has one width and one pair of signs.
@@ -10,8 +11,6 @@ pub const GROUPS: u64 = 32;
 
 // 18 operators over 10 by 10 numbers.
 pub const ROWS: u64 = 1800;
-
-const BYTES: usize = 16200;
 
 // The numbers that both operands take at a width.
 fn number(i: u64, width: u32) -> u64 {
@@ -67,23 +66,22 @@ fn group(rows: &[u8; 16200], g: u64) -> u64
 }
 
 // Reads a group and counts; a group that is not there has no row that agrees.
-fn next_group(fd: i32, g: u64) -> u64
+fn next_group<R: Read>(reader: &mut R, g: u64) -> u64
     requires { g < 32 }
     ensures { result ≤ 1800 }
 {
     let mut rows = [0u8; 16200];
-    if io::read_full(fd, &mut rows) == BYTES {
-        group(&rows, g)
-    } else {
-        0
+    match reader.read_exact(&mut rows) {
+        Ok(()) => group(&rows, g),
+        Err(_) => 0,
     }
 }
 
-pub fn groups(fd: i32) -> u64 {
+pub fn groups<R: Read>(reader: &mut R) -> u64 {
     let mut good = 0;
     let mut g = 0;
     while g < GROUPS {
-        good += next_group(fd, g);
+        good += next_group(reader, g);
         g += 1;
     }
     good

@@ -4,36 +4,42 @@
 mod equal;
 mod rows;
 
-use libc::STDOUT_FILENO;
 use rows::File;
+use std::rt::Files;
+use std::{fs, io};
 
-fn say(what: &[u8], good: u64, of: u64) {
-    io::write_all(STDOUT_FILENO, what);
-    io::print_decimal(STDOUT_FILENO, good);
-    io::write_all(STDOUT_FILENO, b" of ");
-    io::print_decimal(STDOUT_FILENO, of);
-    io::write_all(STDOUT_FILENO, b"\n");
+fn say(rt: &impl Print, what: &str, good: u64, of: u64) -> io::Result<()> {
+    println!(rt; "{what}: {good} of {of}")
 }
 
-fn main() {
-    let fd = os::open_read(b"equal.bin");
-    let good = equal::groups(fd);
-    libc::close(fd);
+// The rows that agree of the groups' file; none where it cannot be opened.
+fn groups(rt: &impl Files) -> u64 {
+    match fs::open(rt, "equal.bin") {
+        Ok(mut reader) => equal::groups(&mut reader),
+        Err(_) => 0,
+    }
+}
+
+// The rows that agree of another file; none where it cannot be opened.
+fn agreeing(rt: &impl Files, path: &str, file: File, rows: u64) -> u64 {
+    match fs::open(rt, path) {
+        Ok(mut reader) => rows::agreeing(file, &mut reader, rows),
+        Err(_) => 0,
+    }
+}
+
+fn main(rt: HostRuntime) -> io::Result<()> {
+    let good = groups(&rt);
     say(
-        b"operands of one width: ",
+        &rt,
+        "operands of one width",
         good,
         equal::GROUPS * equal::ROWS,
-    );
-    let fd = os::open_read(b"mixed.bin");
-    let good = rows::agreeing(File::Mixed, fd, rows::MIXED);
-    libc::close(fd);
-    say(b"operands of any width: ", good, rows::MIXED);
-    let fd = os::open_read(b"casts.bin");
-    let good = rows::agreeing(File::Casts, fd, rows::CASTS);
-    libc::close(fd);
-    say(b"casts: ", good, rows::CASTS);
-    let fd = os::open_read(b"types.bin");
-    let good = rows::agreeing(File::Types, fd, rows::TYPES);
-    libc::close(fd);
-    say(b"spellings of types: ", good, rows::TYPES);
+    )?;
+    let good = agreeing(&rt, "mixed.bin", File::Mixed, rows::MIXED);
+    say(&rt, "operands of any width", good, rows::MIXED)?;
+    let good = agreeing(&rt, "casts.bin", File::Casts, rows::CASTS);
+    say(&rt, "casts", good, rows::CASTS)?;
+    let good = agreeing(&rt, "types.bin", File::Types, rows::TYPES);
+    say(&rt, "spellings of types", good, rows::TYPES)
 }

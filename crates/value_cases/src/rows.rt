@@ -2,6 +2,7 @@
 ghost use Rattle.std.specs.Prelude.{◌+◌, ◌≤◌, length};
 
 use spelling::Pointee;
+use std::io::Read;
 use value::{Answer, BinaryOp, Ty, Val};
 
 pub const MIXED: u64 = 4000;
@@ -75,9 +76,9 @@ fn mixed_row(row: &[u8; 31]) -> bool {
     answer_at(&row[..], 21).same(value::binary(op, left, right))
 }
 
-fn next_mixed(fd: i32) -> bool {
+fn next_mixed<R: Read>(reader: &mut R) -> bool {
     let mut row = [0u8; 31];
-    (io::read_full(fd, &mut row) == 31) & mixed_row(&row)
+    reader.read_exact(&mut row).is_ok() & mixed_row(&row)
 }
 
 // operand, width u8, signed u8, answer
@@ -89,9 +90,9 @@ fn cast_row(row: &[u8; 22]) -> bool {
     answer_at(&row[..], 12).same(Answer::Value(operand(&row[..], 0).cast(ty)))
 }
 
-fn next_cast(fd: i32) -> bool {
+fn next_cast<R: Read>(reader: &mut R) -> bool {
     let mut row = [0u8; 22];
-    (io::read_full(fd, &mut row) == 22) & cast_row(&row)
+    reader.read_exact(&mut row).is_ok() & cast_row(&row)
 }
 
 fn is_type(ty: Ty, bits: u8, signed: u8) -> bool {
@@ -115,25 +116,25 @@ fn type_row(row: &[u8]) -> bool {
     is_type(spelling::type_of(spelling), row[65], row[66]) & points
 }
 
-fn next_type(fd: i32) -> bool {
+fn next_type<R: Read>(reader: &mut R) -> bool {
     let mut row = [0u8; 69];
-    (io::read_full(fd, &mut row) == 69) & type_row(&row)
+    reader.read_exact(&mut row).is_ok() & type_row(&row)
 }
 
-fn next_agrees(file: File, fd: i32) -> bool {
+fn next_agrees<R: Read>(file: File, reader: &mut R) -> bool {
     match file {
-        File::Mixed => next_mixed(fd),
-        File::Casts => next_cast(fd),
-        File::Types => next_type(fd),
+        File::Mixed => next_mixed(reader),
+        File::Casts => next_cast(reader),
+        File::Types => next_type(reader),
     }
 }
 
 // How many of a file's rows agree.
-pub fn agreeing(file: File, fd: i32, rows: u64) -> u64 {
+pub fn agreeing<R: Read>(file: File, reader: &mut R, rows: u64) -> u64 {
     let mut good = 0;
     let mut k = 0;
     while k < rows {
-        if next_agrees(file, fd) {
+        if next_agrees(file, reader) {
             good += 1;
         }
         k += 1;
