@@ -1,8 +1,9 @@
 // Cases in pages: a name, the expected number, and the files, each coded as pieces that stand there so many times.
-ghost use Rattle.std.specs.Prelude.{◌≤◌, length};
-ghost use Rattle.io.specs.Counts.{IsPrefixLen};
+ghost use Rattle.std.specs.Prelude.{◌≡◌, ◌≤◌, length, take};
+ghost use Rattle.std.specs.Io.{ReadsAtMost};
 
-use libc::STDOUT_FILENO;
+use std::io;
+use std::io::Read;
 
 // A place in the page, and where the file that is put together ends.
 #[derive(Clone, Copy)]
@@ -95,7 +96,8 @@ fn part(page: &[u8], from: usize, to: usize) -> &[u8] {
 
 // The file coded at a place.
 fn unpack(page: &[u8], at: usize, file: &mut [u8]) -> Place
-    ensures { IsPrefixLen result.end file.new }
+    ensures in_bounds { result.end ≤ length file.new }
+    ensures taken { result.end ≡ length (take result.end file.new) }
 {
     let mut left = half(page, at);
     let mut p = Place {
@@ -109,20 +111,17 @@ fn unpack(page: &[u8], at: usize, file: &mut [u8]) -> Place
     p
 }
 
-fn report(name: &[u8], expected: u8, found: u32) {
+fn report(rt: &impl Print, name: &[u8], expected: u8, found: u32) -> io::Result<()> {
     if expected as u32 == found {
-        return;
+        return Ok(());
     }
-    io::write_all(STDOUT_FILENO, name);
-    io::write_all(STDOUT_FILENO, b": expected ");
-    io::print_decimal(STDOUT_FILENO, expected as u64);
-    io::write_all(STDOUT_FILENO, b", found ");
-    io::print_decimal(STDOUT_FILENO, found as u64);
-    io::write_all(STDOUT_FILENO, b"\n");
+    rt.write_all(name)?;
+    println!(rt; ": expected {expected}, found {found}")
 }
 
 // A case of three files: where it ends in the page.
 fn compare_run(
+    rt: &impl Print,
     page: &[u8],
     from: usize,
     name: &[u8],
@@ -130,7 +129,7 @@ fn compare_run(
     routine: &mut [u8],
     world: &mut [u8],
     call: &mut [u8],
-) -> usize {
+) -> io::Result<usize> {
     let r = unpack(page, from, routine);
     let w = unpack(page, r.at, world);
     let c = unpack(page, w.at, call);
@@ -142,98 +141,118 @@ fn compare_run(
         &world[..world_end],
         &call[..call_end],
     );
-    report(name, expected, found);
-    c.at
+    report(rt, name, expected, found)?;
+    Ok(c.at)
 }
 
 // A case of a node and its routine.
 fn compare_constant(
+    rt: &impl Print,
     page: &[u8],
     from: usize,
     name: &[u8],
     expected: u8,
     routine: &mut [u8],
-) -> usize {
+) -> io::Result<usize> {
     let r = unpack(page, past(page, from, 4), routine);
     let end = r.end;
     let found = files::check_constant(&routine[..end], word(page, from));
-    report(name, expected, found);
-    r.at
+    report(rt, name, expected, found)?;
+    Ok(r.at)
 }
 
 // The case at a place: where it ends.
 fn compare_one(
+    rt: &impl Print,
     page: &[u8],
     at: usize,
     routine: &mut [u8],
     world: &mut [u8],
     call: &mut [u8],
-) -> usize {
+) -> io::Result<usize> {
     let from = past(page, at, 1);
     let to = past(page, from, byte(page, at) as usize);
     let name = part(page, from, to);
     let expected = byte(page, to);
     let rest = past(page, to, 2);
     if byte(page, past(page, to, 1)) == 1 {
-        return compare_constant(page, rest, name, expected, routine);
+        return compare_constant(rt, page, rest, name, expected, routine);
     }
-    compare_run(page, rest, name, expected, routine, world, call)
+    compare_run(rt, page, rest, name, expected, routine, world, call)
 }
 
 // The cases of a page, after so many others: how many there are with them. A page ends at a name of no byte.
 fn compare_page(
+    rt: &impl Print,
     page: &[u8],
     before: u64,
     routine: &mut [u8],
     world: &mut [u8],
     call: &mut [u8],
-) -> u64 {
+) -> io::Result<u64> {
     let mut count = before;
     let mut at = 0;
     while at < page.len() {
         if page[at] == 0 {
-            return count;
+            return Ok(count);
         }
-        let next = compare_one(page, at, routine, world, call);
+        let next = compare_one(rt, page, at, routine, world, call)?;
         if next <= at {
-            return count;
+            return Ok(count);
         }
         at = next;
         count = std::num::wrapping_add_u64(count, 1);
     }
-    count
+    Ok(count)
+}
+
+// Reads until the page is full or the input ends: how many bytes stand at its start.
+fn read_full<R: Read>(reader: &mut R, page: &mut [u8]) -> io::Result<usize>
+    ensures { ReadsAtMost result page.new }
+{
+    let mut done = 0;
+    while done < page.len() {
+        let n = reader.read(&mut page[done..])?;
+        if n == 0 {
+            return Ok(done);
+        }
+        done += n;
+    }
+    Ok(done)
 }
 
 // One page: how many cases there are with its own; the same number where no page is left.
-fn compare_next(
-    fd: i32,
+fn compare_next<R: Read>(
+    rt: &impl Print,
+    reader: &mut R,
     before: u64,
     page: &mut [u8],
     routine: &mut [u8],
     world: &mut [u8],
     call: &mut [u8],
-) -> u64 {
-    let n = io::read_full(fd, page);
-    compare_page(&page[..n], before, routine, world, call)
+) -> io::Result<u64> {
+    let n = read_full(reader, page)?;
+    compare_page(rt, &page[..n], before, routine, world, call)
 }
 
 // All pages: how many cases there are. Nothing says that a file ends, so the turns are counted down.
-pub fn compare_all(
-    fd: i32,
+pub fn compare_all<R: Read>(
+    rt: &impl Print,
+    reader: &mut R,
     page: &mut [u8],
     routine: &mut [u8],
     world: &mut [u8],
     call: &mut [u8],
-) -> u64 {
+) -> io::Result<u64> {
     let mut count = 0;
     let mut turns: u64 = 1000;
     while 0 < turns {
-        let with = compare_next(fd, count, page, routine, world, call);
+        let with = compare_next(rt, reader, count, page, routine, world, call)?;
         if with == count {
-            return count;
+            return Ok(count);
         }
         count = with;
         turns -= 1;
     }
-    count
+    Ok(count)
 }

@@ -3,21 +3,29 @@
 
 mod cases;
 
-use libc::STDOUT_FILENO;
+use std::fs::File;
+use std::io;
 
-fn main() {
-    let path = b"cases.bin";
-    let fd = os::open_read(path);
-    if fd < 0 {
-        os::fail(path);
-        return;
+fn compare(rt: &impl Print, mut reader: File) -> io::Result<()> {
+    let mut page = [0u8; 65536];
+    let mut routine = [0u8; 65536];
+    let mut world = [0u8; 65536];
+    let mut call = [0u8; 65536];
+    let count = cases::compare_all(
+        rt,
+        &mut reader,
+        &mut page,
+        &mut routine,
+        &mut world,
+        &mut call,
+    )?;
+    println!(rt; "{count} cases compared")
+}
+
+fn main(rt: HostRuntime) -> io::Result<()> {
+    let path = "cases.bin";
+    match File::open(&rt, path) {
+        Ok(reader) => compare(&rt, reader),
+        Err(e) => eprintln!(rt; "{path}: {e}"),
     }
-    let mut page = io::large_buffer();
-    let mut routine = io::large_buffer();
-    let mut world = io::large_buffer();
-    let mut call = io::large_buffer();
-    let count = cases::compare_all(fd, &mut page, &mut routine, &mut world, &mut call);
-    libc::close(fd);
-    io::print_decimal(STDOUT_FILENO, count);
-    io::write_all(STDOUT_FILENO, b" cases compared\n");
 }
