@@ -7,38 +7,37 @@ mod store;
 mod tally;
 mod unpack;
 
-use libc::STDOUT_FILENO;
+use std::fs::File;
+use std::io;
 use tally::Tally;
 
-fn say(what: &[u8], good: u64, of: u64) {
-    io::write_all(STDOUT_FILENO, what);
-    io::print_decimal(STDOUT_FILENO, good);
-    io::write_all(STDOUT_FILENO, b" of ");
-    io::print_decimal(STDOUT_FILENO, of);
-    io::write_all(STDOUT_FILENO, b"\n");
+fn say(rt: &impl Print, what: &str, good: u64, of: u64) -> io::Result<()> {
+    println!(rt; "{what}: {good} of {of}")
 }
 
-fn say_all(t: Tally, cases: u64) {
-    say(b"runs that agree: ", t.good_runs, t.runs);
+fn say_all(rt: &impl Print, t: Tally, cases: u64) -> io::Result<()> {
+    say(rt, "runs that agree", t.good_runs, t.runs)?;
     say(
-        b"values of constants that agree: ",
+        rt,
+        "values of constants that agree",
         t.good_constants,
         t.constants,
-    );
-    say(b"cases compared: ", t.cases(), cases);
+    )?;
+    say(rt, "cases compared", t.cases(), cases)
 }
 
-fn main() {
-    let path = b"vectors.bin";
-    let fd = os::open_read(path);
-    if fd < 0 {
-        os::fail(path);
-        return;
-    }
+fn replay_all(rt: &impl Print, mut reader: File) -> io::Result<()> {
     let mut store = store::empty();
-    let count = replay::count(fd);
-    let t = replay::compare_cases(fd, count, &mut store);
-    replay::expect_end(fd);
-    libc::close(fd);
-    say_all(t, count as u64);
+    let count = replay::count(rt, &mut reader)?;
+    let t = replay::compare_cases(rt, &mut reader, count, &mut store)?;
+    replay::expect_end(rt, &mut reader)?;
+    say_all(rt, t, count as u64)
+}
+
+fn main(rt: HostRuntime) -> io::Result<()> {
+    let path = "vectors.bin";
+    match File::open(&rt, path) {
+        Ok(reader) => replay_all(&rt, reader),
+        Err(e) => eprintln!(rt; "{path}: {e}"),
+    }
 }

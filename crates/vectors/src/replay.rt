@@ -1,7 +1,8 @@
 // The cases of the file, one after the other, each run and compared.
 use crate::tally::Tally;
 use crate::{answers, store, tally, unpack};
-use libc::STDOUT_FILENO;
+use std::io;
+use std::io::Read;
 
 // `VEC1` as a number.
 const VEC1: usize = 826492246;
@@ -19,60 +20,65 @@ fn compare_case(case: &[u8], store: &mut [u8]) -> Tally {
 }
 
 // The next number u32 of the file.
-fn next_word(fd: i32) -> usize {
+fn next_word<R: Read>(reader: &mut R) -> usize {
     let mut head = [0u8; 4];
-    if io::read_full(fd, &mut head) != 4 {
-        return unpack::BEYOND;
+    match reader.read_exact(&mut head) {
+        Ok(()) => unpack::word(&head, 0) as usize,
+        Err(_) => unpack::BEYOND,
     }
-    unpack::word(&head, 0) as usize
 }
 
 // The file's first words: `VEC1` and the count of cases, which is given back; 0 for another file.
-pub fn count(fd: i32) -> usize {
-    if next_word(fd) != VEC1 {
-        io::write_all(STDOUT_FILENO, b"it is no file of cases\n");
-        return 0;
+pub fn count<R: Read>(rt: &impl Print, reader: &mut R) -> io::Result<usize> {
+    if next_word(reader) != VEC1 {
+        println!(rt; "it is no file of cases")?;
+        return Ok(0);
     }
-    next_word(fd)
+    Ok(next_word(reader))
 }
 
 // Nothing comes after the last case.
-pub fn expect_end(fd: i32) {
+pub fn expect_end<R: Read>(rt: &impl Print, reader: &mut R) -> io::Result<()> {
     let mut more = [0u8; 1];
-    if io::read_full(fd, &mut more) != 0 {
-        io::write_all(STDOUT_FILENO, b"the file goes on after its cases\n");
+    if reader.read(&mut more)? != 0 {
+        println!(rt; "the file goes on after its cases")?;
     }
+    Ok(())
 }
 
 // The next case: its length u32, and its bytes.
-fn compare_next(fd: i32, store: &mut [u8]) -> Tally {
-    let mut space = io::large_buffer();
+fn compare_next<R: Read>(reader: &mut R, store: &mut [u8]) -> Tally {
+    let mut space = [0u8; 65536];
     let page: &mut [u8] = &mut space;
-    let size = next_word(fd);
+    let size = next_word(reader);
     if page.len() < size {
         return Tally::none();
     }
-    if io::read_full(fd, &mut page[0..size]) != size {
-        return Tally::none();
+    match reader.read_exact(&mut page[0..size]) {
+        Ok(()) => compare_case(&page[0..size], store),
+        Err(_) => Tally::none(),
     }
-    let read = &page[..];
-    compare_case(&read[0..size], store)
 }
 
 // So many cases, up to the first that is not well made.
-pub fn compare_cases(fd: i32, cases: usize, store: &mut [u8]) -> Tally {
+pub fn compare_cases<R: Read>(
+    rt: &impl Print,
+    reader: &mut R,
+    cases: usize,
+    store: &mut [u8],
+) -> io::Result<Tally> {
     let mut t = Tally::none();
     let mut left = cases;
     while 0 < left {
-        let one = compare_next(fd, store);
+        let one = compare_next(reader, store);
         if one.cases() == 0 {
-            return t;
+            return Ok(t);
         }
         if !one.all_agree() {
-            tally::tell(t.cases());
+            tally::tell(rt, t.cases())?;
         }
         t = t.plus(one);
         left -= 1;
     }
-    t
+    Ok(t)
 }

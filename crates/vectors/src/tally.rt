@@ -1,5 +1,5 @@
 // How many cases agree.
-use libc::STDOUT_FILENO;
+use std::io;
 
 // How many cases of each kind there were, and how many of them agreed.
 #[derive(Clone, Copy)]
@@ -61,8 +61,6 @@ impl Tally {
 }
 
 // A case that does not agree. Its number counts from 0.
-pub fn tell(case: u64) {
-    io::write_all(STDOUT_FILENO, b"not as the original answered: case ");
-    io::print_decimal(STDOUT_FILENO, case);
-    io::write_all(STDOUT_FILENO, b"\n");
+pub fn tell(rt: &impl Print, case: u64) -> io::Result<()> {
+    println!(rt; "not as the original answered: case {case}")
 }
