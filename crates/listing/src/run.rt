@@ -7,60 +7,86 @@ ghost use Rattle.text.specs.Read.{StopThere};
 ghost use Rattle.text.proofs.Listing.{StepsLeft, VariablesLeft};
 ghost use Rattle.listing.specs.Accepted.{Located, Listable, RunOf};
 
-use libc::STDOUT_FILENO;
+use std::io;
 
 // The first bytes of a buffer, so many, written out.
-fn print_line(out: &[u8], size: usize)
+fn print_line(rt: &impl Print, out: &[u8], size: usize) -> io::Result<()>
     requires { size ≤ length out.now }
 {
-    io::write_all(STDOUT_FILENO, &out[0..size]);
+    rt.write_all(&out[0..size])
 }
 
-fn print_refusal(number: u64, out: &mut [u8])
+fn print_refusal(rt: &impl Print, number: u64, out: &mut [u8]) -> io::Result<()>
     requires { 8192 ≤ length out.old }
 {
     let size = text::refusal_line(number, out);
-    print_line(out, size);
+    print_line(rt, out, size)
 }
 
-fn print_header(names: &[u8], part: &[u8], head: &[u8], out: &mut [u8])
+fn print_header(
+    rt: &impl Print,
+    names: &[u8],
+    part: &[u8],
+    head: &[u8],
+    out: &mut [u8],
+) -> io::Result<()>
     requires texts_indexed { (TextsIndexed names.now part.now) × ((10 ≤ length head.now) × (number_at head.now 0 2 < text_count names.now)) }
     requires in_bounds { 8192 ≤ length out.old }
 {
     let size = text::header(names, part, head, out);
-    print_line(out, size);
+    print_line(rt, out, size)
 }
 
-fn print_steps(names: &[u8], part: &[u8], steps: &[u8], out: &mut [u8])
+fn print_steps(
+    rt: &impl Print,
+    names: &[u8],
+    part: &[u8],
+    steps: &[u8],
+    out: &mut [u8],
+) -> io::Result<()>
     requires texts_indexed { (TextsIndexed names.now part.now) × (StepsLeft (text_count names.now) steps.now) }
     requires in_bounds { 8192 ≤ length out.old }
 {
     let mut at = 0;
     while at < steps.len() {
         let line = text::step_line(names, part, steps, at, out);
-        print_line(out, line.length);
+        print_line(rt, out, line.length)?;
         at = line.next;
     }
+    Ok(())
 }
 
-fn print_stop(names: &[u8], part: &[u8], stop: &[u8], out: &mut [u8])
+fn print_stop(
+    rt: &impl Print,
+    names: &[u8],
+    part: &[u8],
+    stop: &[u8],
+    out: &mut [u8],
+) -> io::Result<()>
     requires texts_indexed { (TextsIndexed names.now part.now) × (StopThere (text_count names.now) stop.now) }
     requires in_bounds { 8192 ≤ length out.old }
 {
     let size = text::stop_line(names, part, stop, out);
-    print_line(out, size);
+    print_line(rt, out, size)
 }
 
-fn print_variables(names: &[u8], part: &[u8], variables: &[u8], out: &mut [u8])
+fn print_variables(
+    rt: &impl Print,
+    names: &[u8],
+    part: &[u8],
+    variables: &[u8],
+    out: &mut [u8],
+) -> io::Result<()>
     requires texts_indexed { (TextsIndexed names.now part.now) × (VariablesLeft (text_count names.now) variables.now) }
     requires in_bounds { 8192 ≤ length out.old }
 {
     let mut at = 0;
     while at < variables.len() {
         let line = text::variable_line(names, part, variables, at, out);
-        print_line(out, line.length);
+        print_line(rt, out, line.length)?;
         at = line.next;
     }
+    Ok(())
 }
 
 // What pair i of a record locates.
@@ -74,18 +100,25 @@ fn body(record: &[u8], i: usize) -> &[u8]
 }
 
 // The lines of an accepted run.
-fn print_lines(names: &[u8], part: &[u8], head: &[u8], record: &[u8], out: &mut [u8])
+fn print_lines(
+    rt: &impl Print,
+    names: &[u8],
+    part: &[u8],
+    head: &[u8],
+    record: &[u8],
+    out: &mut [u8],
+) -> io::Result<()>
     requires texts_indexed { (TextsIndexed names.now part.now) × ((10 ≤ length head.now) × (number_at head.now 0 2 < text_count names.now)) }
     requires listable { (Listable (text_count names.now) «record».now) × (8192 ≤ length out.old) }
 {
-    print_header(names, part, head, out);
-    print_steps(names, part, body(record, 2), out);
-    print_stop(names, part, body(record, 0), out);
-    print_variables(names, part, body(record, 3), out);
+    print_header(rt, names, part, head, out)?;
+    print_steps(rt, names, part, body(record, 2), out)?;
+    print_stop(rt, names, part, body(record, 0), out)?;
+    print_variables(rt, names, part, body(record, 3), out)
 }
 
 // The listing of an accepted run, from its routine and its record.
-fn print_run(routine: &[u8], record: &[u8], out: &mut [u8])
+fn print_run(rt: &impl Print, routine: &[u8], record: &[u8], out: &mut [u8]) -> io::Result<()>
     requires { (RunOf routine.now «record».now) × (8192 ≤ length out.old) }
 {
     let names = files::table::body(routine, 0);
@@ -93,26 +126,26 @@ fn print_run(routine: &[u8], record: &[u8], out: &mut [u8])
     let mut space = [0u8; index::texts::TEXTS];
     let part: &mut [u8] = &mut space;
     index::texts::fill_texts(names, part);
-    print_lines(names, part, head, record, out);
+    print_lines(rt, names, part, head, record, out)
 }
 
 // A run with the buffers that the listing lends, and its listing.
 pub fn print_listing(
+    rt: &impl Print,
     routine: &[u8],
     world: &[u8],
     call: &[u8],
     record: &mut [u8],
     workspace: &mut [u8],
-)
+) -> io::Result<()>
     requires { (length «record».old ≡ 65536) × (length workspace.old ≡ 65536) }
 {
     let mut space = [0u8; text::LINE];
     let out: &mut [u8] = &mut space;
     let answer = emulate::run(routine, world, call, record, workspace);
     if answer.number != 0 {
-        print_refusal(answer.number as u64, out);
-        return;
+        return print_refusal(rt, answer.number as u64, out);
     }
     let size = answer.length as usize;
-    print_run(routine, &record[..size], out);
+    print_run(rt, routine, &record[..size], out)
 }
