@@ -83,8 +83,7 @@ fn run_accepted(
 }
 
 // A run: the record of what the routine does in this world when it is called so.
-#[unsafe(no_mangle)]
-pub extern "C" fn run(
+pub fn run(
     routine: &[u8],
     world: &[u8],
     call: &[u8],
@@ -121,8 +120,7 @@ pub struct Constant {
 }
 
 // The value of the expression at a node, which no variable and no world decides.
-#[unsafe(no_mangle)]
-pub extern "C" fn constant_value(routine: &[u8], node: u32, workspace: &mut [u8]) -> Constant
+pub fn constant_value(routine: &[u8], node: u32, workspace: &mut [u8]) -> Constant
     ensures { ConstantAnswered routine.now node workspace.old result.refusal result.known result.signed result.bits result.number workspace.new }
 {
     let n = files::check_constant(routine, node as usize);
