@@ -54,8 +54,9 @@ fn count(b: &[u8], depth: usize, parent: u8, n: usize, e: usize) -> usize
             return 0;
         }
         // A node without children, as most are, takes no call.
+        let has_kids = 1 < span;
         let mut kids = 1;
-        if 1 < span {
+        if has_kids {
             kids = count(b, depth - 1, kind, at + 1, at + span);
         }
         if !is_counted(kind, kids) {
