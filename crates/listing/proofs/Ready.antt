@@ -51,7 +51,7 @@ module _ (routine world call : List ℕ) (h : number routine world call 65536 wo
   record_listable =
       let short = record_short routine world call 65536 workspace_needed h in
       record {
-        stop_at_lem = record { told = omega (arith, record_long run_record); within = stop_inside run_record short };
+        stop_at = record { told = omega (arith, record_long run_record); within = stop_inside run_record short };
         steps_at = record { told = omega (arith, record_long run_record); within = steps_inside run_record short };
         variables_at = record { told = omega (arith, record_long run_record); within = variables_inside run_record short };
         stop = stop_ready routine world call h;

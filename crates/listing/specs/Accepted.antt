@@ -13,7 +13,7 @@ pub record Located (bytes : List ℕ) (i : ℕ) : Type 0 where
 
 -- a record whose stop, steps and variables name what is among the first n
 pub record Listable (n : ℕ) (bytes : List ℕ) : Type 0 where
-  pub stop_at_lem : Located bytes 0
+  pub stop_at : Located bytes 0
   pub steps_at : Located bytes 2
   pub variables_at : Located bytes 3
   pub stop : StopThere n (body_at bytes 0)

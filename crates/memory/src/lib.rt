@@ -5,8 +5,8 @@ ghost use Rattle.std.specs.Prelude.{◌≡◌, ◌+◌, ◌-◌, ◌*◌, ◌^�
 ghost use Rattle.std.proofs.lemmas.List.Edits.{sets};
 ghost use Rattle.layout.specs.Number.{le};
 ghost use Rattle.layout.specs.Format.{writes};
-ghost use Rattle.memory.specs.Overlay.{to_byte, find as findIn, store as storeIn, stores, run_of, load};
-ghost use Rattle.memory.specs.Entries.{Sorted, entry, entries, entry_size, limit, first as firstIn, piece, overwritten, memory_body};
+ghost use Rattle.memory.specs.Overlay.{to_byte, find as find_in, store as store_in, stores, run_of, load};
+ghost use Rattle.memory.specs.Entries.{Sorted, entry, entries, entry_size, limit, first as first_in, piece, overwritten, memory_body};
 ghost use Rattle.memory.specs.Post.{found_as, loaded_as, Holds, Stores, StoresAll, SlideBoth, Slid, Spans, Spliced, Unmoved};
 
 mod row;
@@ -80,7 +80,7 @@ struct Move {
 // The place of the first entry.
 fn first_of(part: &[u8], count: usize) -> usize
     requires { Sorted part.now count }
-    ensures { result ≡ firstIn part.now count }
+    ensures { result ≡ first_in part.now count }
 {
     if count == 0 {
         return 0;
@@ -91,7 +91,7 @@ fn first_of(part: &[u8], count: usize) -> usize
 // The byte at an address.
 pub fn find(part: &[u8], count: usize, address: u64) -> Found
     requires { Sorted part.now count }
-    ensures { result ≡ found_as (to_byte (findIn address (entries part.now count))) }
+    ensures { result ≡ found_as (to_byte (find_in address (entries part.now count))) }
 {
     let from = first_of(part, count) * ENTRY;
     row::find(&part[from..], count, address)
@@ -325,7 +325,7 @@ fn put_beside(
     bytes: usize,
 )
     requires sorted { Sorted part.old count × Spliced (entries part.old count) count span address bytes }
-    requires unmoved { Unmoved count (firstIn part.old count) span bytes to }
+    requires unmoved { Unmoved count (first_in part.old count) span bytes to }
     ensures { Holds (stores address (le bytes number) (entries part.old count)) part.new (count + bytes) }
 {
     put_run(part, to + span.at, address, number, bytes);
@@ -345,7 +345,7 @@ fn add(
 ) -> Stored
     requires sorted { Sorted part.old count × Spans (entries part.old count) count span address bytes }
     requires bytes_nonzero { (0 < bytes) × (bytes ≤ 8) × (address + bytes ≤ 2 ^ 64) }
-    requires first_value { first ≡ firstIn part.old count }
+    requires first_value { first ≡ first_in part.old count }
     ensures { Stores (stores address (le bytes number) (entries part.old count)) part.old part.new result }
 {
     if span.at == count {
@@ -366,7 +366,7 @@ fn add(
 // A byte stored at an address.
 pub fn store(part: &mut [u8], count: usize, address: u64, byte: u8) -> Stored
     requires { Sorted part.old count }
-    ensures { Stores (storeIn address byte (entries part.old count)) part.old part.new result }
+    ensures { Stores (store_in address byte (entries part.old count)) part.old part.new result }
 {
     let first = first_of(part, count);
     let from = first * ENTRY;

@@ -1,7 +1,7 @@
 // What the addresses from one on have in a row of entries: one search, then a step for each.
 ghost use Rattle.std.specs.Prelude.{◌≡◌, suc, ◌+◌, ◌*◌, ◌%◌, ◌^◌, ◌<◌, ◌≤◌, true, []};
 ghost use Rattle.layout.specs.Number.{le, num};
-ghost use Rattle.memory.specs.Overlay.{to_byte, find as findIn, rank, byte_or, load as loadIn};
+ghost use Rattle.memory.specs.Overlay.{to_byte, find as find_in, rank, byte_or, load as load_in};
 ghost use Rattle.memory.specs.Entries.{IsRow, row_of};
 ghost use Rattle.memory.specs.Post.{found_as, loaded_as, next_as, Untouched, Spans};
 
@@ -54,7 +54,7 @@ pub fn span_of_byte(row: &[u8], count: usize, address: u64) -> Span
 fn find_at(row: &[u8], count: usize, address: u64, at: usize) -> Found
     requires row { IsRow row.now count }
     requires at_value { at ≡ rank address (row_of row.now count) }
-    ensures { result ≡ found_as (to_byte (findIn address (row_of row.now count))) }
+    ensures { result ≡ found_as (to_byte (find_in address (row_of row.now count))) }
 {
     if at < count {
         if address_at(row, at) == address {
@@ -68,7 +68,7 @@ fn find_at(row: &[u8], count: usize, address: u64, at: usize) -> Found
 
 pub fn find(row: &[u8], count: usize, address: u64) -> Found
     requires { IsRow row.now count }
-    ensures { result ≡ found_as (to_byte (findIn address (row_of row.now count))) }
+    ensures { result ≡ found_as (to_byte (find_in address (row_of row.now count))) }
 {
     let at = lower(row, count, address);
     find_at(row, count, address, at)
@@ -85,7 +85,7 @@ fn after(address: u64, at: usize) -> usize
 fn next_byte(row: &[u8], count: usize, image: Image, address: u64, at: usize) -> Next
     requires row { IsRow row.now count }
     requires at_value { at ≡ rank address (row_of row.now count) }
-    ensures { result ≡ next_as (byte_or (to_byte (findIn address (row_of row.now count))) (le image.count image.number)) (rank ((address + 1) % 2 ^ 64) (row_of row.now count)) }
+    ensures { result ≡ next_as (byte_or (to_byte (find_in address (row_of row.now count))) (le image.count image.number)) (rank ((address + 1) % 2 ^ 64) (row_of row.now count)) }
 {
     let f = find_at(row, count, address, at);
     match f {
@@ -137,7 +137,7 @@ fn low_bytes(number: u64, bytes: usize) -> u64
 // The image's own bytes: a load where the overlay has none.
 fn of_image(image: Image, bytes: usize) -> Loaded
     requires { bytes ≤ 8 }
-    ensures { result ≡ loaded_as (loadIn [] (le image.count image.number) 0 bytes) }
+    ensures { result ≡ loaded_as (load_in [] (le image.count image.number) 0 bytes) }
 {
     if image.count < bytes {
         return Loaded::Unknown;
@@ -156,7 +156,7 @@ fn load_each(
 ) -> Loaded
     requires row { IsRow row.now count × (bytes ≤ 8) }
     requires at_value { at ≡ rank address (row_of row.now count) }
-    ensures { result ≡ loaded_as (loadIn (row_of row.now count) (le image.count image.number) address bytes) }
+    ensures { result ≡ loaded_as (load_in (row_of row.now count) (le image.count image.number) address bytes) }
 {
     let mut place = at;
     let mut here = address;
@@ -185,7 +185,7 @@ fn load_each(
 pub fn load(row: &[u8], count: usize, image: Image, address: u64, bytes: usize) -> Loaded
     requires row { IsRow row.now count }
     requires bytes_bound { bytes ≤ 8 }
-    ensures { result ≡ loaded_as (loadIn (row_of row.now count) (le image.count image.number) address bytes) }
+    ensures { result ≡ loaded_as (load_in (row_of row.now count) (le image.count image.number) address bytes) }
 {
     let at = lower(row, count, address);
     if untouched(row, count, address, at, bytes) {

@@ -60,16 +60,16 @@ few_stored : (w : List ℕ) (n : ℕ) (m : Overlay Cell) → Fit w n → (view w
 few_stored w n m f e = omega (arith, f.sorted.placed, length_stored w n, ap (λ (z : Overlay Cell). length z) e)
 
 module _ (old : List ℕ) (o : Out Val) where
-  abbrev Ends-so : End Val × Held → Type 0
-  Ends-so p = Alike (Like false old) p (o.end, (o.after, o.log))
+  abbrev EndsSo : End Val × Held → Type 0
+  EndsSo p = Alike (Like false old) p (o.end, (o.after, o.log))
 
-  held_few : (w out : List ℕ) (a : Counts) (p : End Val × Held) (e : End Val) → Ends-so p → p ≡ (e, held w out a) → Fit w a.stored → (o.end ≡ e) × (length o.after.memory ≤ address_limit)
+  held_few : (w out : List ℕ) (a : Counts) (p : End Val × Held) (e : End Val) → EndsSo p → p ≡ (e, held w out a) → Fit w a.stored → (o.end ≡ e) × (length o.after.memory ≤ address_limit)
   unfolding held
   held_few w out a p e l c f =
       let k : Like false old (held w out a) (o.after, o.log) = subst (λ (z : Held). Like false old z (o.after, o.log)) (ap (λ (z : End Val × Held). z.1) c) l.state in
       (sym l.end ∙ ap (λ (z : End Val × Held). z.0) c, few_stored w a.stored o.after.memory f k.memory)
 
-  came : (p : End Val × Held) (e : Ending Val) (g : Given) (w out : List ℕ) (a : Counts) → Ends-so p → Came p e (held w out a) → Kept e (Ready g w a) → EvaluatedIf o e
+  came : (p : End Val × Held) (e : Ending Val) (g : Given) (w out : List ℕ) (a : Counts) → EndsSo p → Came p e (held w out a) → Kept e (Ready g w a) → EvaluatedIf o e
   came p (ended v) g w out a l c f = held_few w out a p (gave v) l c f.fit
   came p (short (some y)) g w out a l c f = held_few w out a p (stopped y) l c f.fit
   came p (short none) g w out a l c f = subst (λ (m : Overlay Cell). address_limit < length m) l.state.memory c

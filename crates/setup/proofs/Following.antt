@@ -2,7 +2,6 @@
 use mathlib.Core.Path.{◌≡◌, refl, ap, ◌∙◌}
 use mathlib.Core.List.{List}
 use Prim.Native.Nat.{ℕ}
-use Rattle.workspace.specs.Parts.{tables}
 use Rattle.workspace.specs.View.{View, view, Changes}
 use Rattle.workspace.specs.Post.{Kept, SameTypes}
 

@@ -116,7 +116,7 @@ under_root : Tree → Trees
 under_root (tree d ts) = ts
 
 -- a field's one child
-record Under-field (b : List ℕ) (n : ℕ) (ts : Trees) : Type 0 where
+record UnderField (b : List ℕ) (n : ℕ) (ts : Trees) : Type 0 where
   kid : Tree
   is : ts ≡ cons kid nil
   there : Stands b (n + 1) kid
@@ -129,7 +129,7 @@ record Field (b : List ℕ) (n : ℕ) (t : Tree) : Type 0 where
   there : Stands b (n + 1) under
   ends : next b (n + 1) ≡ next b n
 
-one_under : {b : List ℕ} {n m e : ℕ} {ts : Trees} → KidsAt b m e ts → m ≡ n + 1 → e ≡ next b n → 1 ≤ size ts → size ts ≤ 1 → Under-field b n ts
+one_under : {b : List ℕ} {n m e : ℕ} {ts : Trees} → KidsAt b m e ts → m ≡ n + 1 → e ≡ next b n → 1 ≤ size ts → size ts ≤ 1 → UnderField b n ts
 unfolding size
 one_under no_kid p q y z = absurd (omega arith)
 one_under (a_kid {t = t} l h no_kid) p q y z = record { kid = t; is = refl; there = rw p at h; ends = rw p at q }
@@ -163,7 +163,7 @@ module _ {b : List ℕ} {names types : ℕ} (a : Accepted b names types) (few_na
       fields = fs;
     }
 
-    one_field : kind_of b n ≡ 18 → KidsAt b (n + 1) (next b n) ts → Under-field b n ts
+    one_field : kind_of b n ≡ 18 → KidsAt b (n + 1) (next b n) ts → UnderField b n ts
     unfolding rule_of
     one_field e ks = one_under ks refl refl (rw e at few) (rw e at many)
 

@@ -2,13 +2,13 @@
 use mathlib.Core.Path.{◌≡◌, sym, ap, ap₂, ◌∙◌}
 use mathlib.Core.List.{List, [], ◌∷◌}
 use mathlib.Core.Option.{Option, some}
-use Prim.Native.Nat.{ℕ, ◌+◌, ◌-◌, ◌*◌, ◌%◌, ◌≤◌, ◌<◌}
+use Prim.Native.Nat.{ℕ, ◌+◌, ◌*◌, ◌%◌, ◌≤◌, ◌<◌}
 use native.Mathlib.Nat.{zero-add, add-zero}
 use native.Mathlib.Numerals.{add-one}
 use native.Mathlib.Omega.{arith}
 use lib.ListN.{length, take, drop, length-drop}
-use lib.Seq.{sets, length-sets, take-take, drop-drop, length-take-le}
-use Rattle.layout.specs.Number.{le, num, number_at, put_number}
+use lib.Seq.{sets, length-sets, take-take, length-take-le}
+use Rattle.layout.specs.Number.{le, number_at, put_number}
 use Rattle.layout.proofs.StoreLaws.{take_sets, number_above}
 use Rattle.value.specs.declared.Ty.{Ty}
 use Rattle.spelling.specs.declared.Pointee.TheVariants.{Of, NoPointer}
@@ -19,7 +19,7 @@ use Rattle.workspace.specs.Types.{type_limit, code_of, code_if, type_of_code, ty
 use Rattle.workspace.specs.View.{view}
 use Rattle.workspace.specs.declared.types.Declaration.TheVariants.{As, Nothing}
 use Rattle.workspace.specs.Post.{declaration_as, pointee_as, Kept, SameIndexes, Declares, PutsType}
-use Rattle.workspace.proofs.PartLaws.{part_front, part_sets, part_below, drop_sets_in, take_sets_in, number_part, number_stored, number_below}
+use Rattle.workspace.proofs.PartLaws.{part_front, part_sets, part_below, take_sets_in, number_part, number_stored, number_below}
 use Rattle.workspace.proofs.CodeLaws.{code_small, code_back, if_small, if_back, some_code, no_code}
 
 -- ---- what stands before the tables

@@ -4,7 +4,7 @@ use lib.ListN.{length, drop, replicate, set, length-set}
 use native.Mathlib.Omega.{arith}
 use mathlib.Core.Path.{◌≡◌, refl, ap, ◌∙◌}
 use mathlib.Core.List.{List, ◌++◌, append-nil}
-use Prim.Native.Nat.{ℕ, ◌-◌}
+use Prim.Native.Nat.{ℕ}
 use Rattle.layout.proofs.clear.Goals as goal
 
 pub loop-i-init : goal.loop-i-init

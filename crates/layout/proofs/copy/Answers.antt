@@ -3,7 +3,7 @@ use lib.ListN.{take, drop, get_or, set, length-set}
 use native.Mathlib.Omega.{arith}
 use mathlib.Core.Path.{◌≡◌, refl, ap, ◌∙◌}
 use mathlib.Core.List.{List, ◌++◌}
-use Prim.Native.Nat.{ℕ, ◌-◌}
+use Prim.Native.Nat.{ℕ}
 use Rattle.layout.proofs.copy.Goals as goal
 
 pub loop-i-init : goal.loop-i-init

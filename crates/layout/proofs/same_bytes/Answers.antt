@@ -2,7 +2,6 @@
 -- Assumes nothing.
 use native.Mathlib.Omega.{arith}
 use mathlib.Core.Path.{refl, sym, ◌∙◌}
-use Prim.Native.Nat.{◌-◌}
 use Rattle.layout.proofs.TextLaws.{lengths_differ, bytes_differ, bytes_agree, bytes_end}
 use Rattle.layout.proofs.same_bytes.Goals as goal
 

@@ -1,5 +1,4 @@
 -- The cycle of calls, member by member. Assumes nothing.
-use Prim.Native.Nat.{◌-◌}
 use Rattle.hosting.proofs.Shapes.{room, arg_here, assign_left, assign_right, same_kind, deref_kid, cast_type, binary_left, call_callee, call_args, cast_kid, constant_width, address_kid, intrinsic_kids, kid_here, returned_kid, field_room, field_inside, field_kid, field_type, struct_fields}
 use Rattle.machine.proofs.Assigning.{struct_executes, val_fails, val_executes, write_assigns, odd_assigns, store_fails, store_assigns, assigned_short, assigned_fails, assigned_evals, assigned_tells}
 use Rattle.machine.proofs.Calling.{call_short, args_ready, call_evals}
@@ -15,8 +14,6 @@ use Rattle.machine.proofs.Storing.{odd_struct, base_past, struct_fails, struct_a
 use Rattle.operations.proofs.Targeting.{base_fine, target_fine}
 use borrow.Author.Rules.{rules}
 use borrow.Author.Tests.{not-true, not-false}
-use lib.ListN.{length}
-use mathlib.Core.Logic.{⊎_elim}
 use mathlib.Core.Path.{◌∙◌, ap, refl}
 use native.Mathlib.Omega.{arith}
 use Rattle.std.proofs.Common.{not}
@@ -191,11 +188,11 @@ binary-loop-left-preserved t c =
     let l = c.loop-left.invariant in
     let x = c.args in
     let valued : Valued x.nodes.now.now x.symbols.now.now x.regions.now.now c.loop-left.i c.loop-left.ws c.loop-left.out c.match-hand.r c.match-hand.ws c.match-hand.out =
-        elim c.match-hand.branch [
-          | binary-in-Set w ↦ operand_at_hand c.at_hand-hand.ensures w.in-Set.is w.r-is w.ws-is w.out-is
-          | binary-in-Unset+else-not-evaluate w ↦
-              operand_evaluated w.evaluate.ensures.0 (ap not w.if-not-evaluate.false) w.value-r.ensures w.r-is w.ws-is w.out-is
-        ]
+    elim c.match-hand.branch [
+      | binary-in-Set w ↦ operand_at_hand c.at_hand-hand.ensures w.in-Set.is w.r-is w.ws-is w.out-is
+      | binary-in-Unset+else-not-evaluate w ↦
+          operand_evaluated w.evaluate.ensures.0 (ap not w.if-not-evaluate.false) w.value-r.ensures w.r-is w.ws-is w.out-is
+    ]
     in
     (binary_next l.0 c.loop-left-test.true c.next-right.ensures valued, omega arith, omega arith)
 

@@ -2,7 +2,7 @@
 -- Assumes nothing.
 use native.Mathlib.Omega.{arith}
 use mathlib.Core.Path.{refl, sym, ap, ◌∙◌}
-use Prim.Native.Nat.{◌-◌, ◌≤◌}
+use Prim.Native.Nat.{◌≤◌}
 use lib.ListN.{length}
 use Rattle.spelling.specs.Spelling.{any_unsigned}
 use Rattle.spelling.proofs.Words.{end_within, from_end, unsigned_here, unsigned_skipped}

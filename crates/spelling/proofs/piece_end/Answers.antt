@@ -2,7 +2,6 @@
 -- Assumes nothing.
 use native.Mathlib.Omega.{arith}
 use mathlib.Core.Path.{refl}
-use Prim.Native.Nat.{◌-◌}
 use Rattle.spelling.proofs.Words.{end_here, end_later, end_last}
 use Rattle.spelling.proofs.piece_end.Goals as goal
 

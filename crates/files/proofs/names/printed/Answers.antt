@@ -1,5 +1,4 @@
 use mathlib.Core.Path.{refl}
-use Prim.Native.Nat.{◌-◌}
 use borrow.Author.Rules.{rules}
 use Rattle.files.proofs.NameLaws.{printable_end, printable_on}
 use Rattle.files.proofs.names.printed.Goals as goal

@@ -1,4 +1,3 @@
-use Prim.Native.Nat.{◌-◌}
 use borrow.Author.Rules.{rules}
 use Rattle.files.specs.Items.{every}
 use Rattle.files.specs.Nodes.{fields_ok}

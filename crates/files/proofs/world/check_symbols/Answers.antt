@@ -1,4 +1,3 @@
-use Prim.Native.Nat.{◌-◌}
 use borrow.Author.Rules.{rules}
 use Rattle.files.specs.Items.{every}
 use Rattle.files.proofs.WorldLaws.{symbols_odd, symbols_down, symbols_past, symbols_on, symbols_next, symbols_start, symbols_good}

@@ -1,6 +1,6 @@
 -- `case_of` meets its contract. The loop's invariant: the cases from k on decide. Assumes nothing.
 use mathlib.Core.Path.{ap}
-use Prim.Native.Nat.{ℕ, ◌+◌, ◌-◌}
+use Prim.Native.Nat.{ℕ, ◌+◌}
 use native.Mathlib.Omega.{arith}
 use Rattle.files.specs.Program.{case_of, listed, case_at}
 use Rattle.index.specs.Answers.{maybe_of}

@@ -1,6 +1,5 @@
 -- `fill_blocks` meets its contract. The loop's invariant: the block before which it stands is numbered by how many entries are made, and they are right.
 -- Assumes nothing.
-use Prim.Native.Nat.{◌-◌}
 use borrow.Author.Rules.{rules}
 use Rattle.index.proofs.BlockIndex.{blocks_none, block_inside, block_filled, blocks_filled}
 use Rattle.index.proofs.blocks.fill_blocks.Goals as goal

@@ -1,6 +1,5 @@
 -- `fill_regions` meets its contract. The loop's invariant: the region before which it stands is numbered by how many came, and the entries made are right.
 -- Assumes nothing.
-use Prim.Native.Nat.{◌-◌}
 use Rattle.index.proofs.RegionIndex.{regions_none, region_there, region_filled, regions_filled}
 use borrow.Author.Rules.{rules}
 use Rattle.index.proofs.regions.fill_regions.Goals as goal

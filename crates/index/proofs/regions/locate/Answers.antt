@@ -1,5 +1,4 @@
 -- `locate` meets its contract. The loop's invariant: the regions before the one where it stands end by the address. Assumes nothing.
-use Prim.Native.Nat.{◌-◌}
 use Rattle.index.proofs.RegionIndex.{from_inside, before_region, in_region, past_region, past_all}
 use borrow.Author.Rules.{rules}
 use Rattle.index.proofs.regions.locate.Goals as goal

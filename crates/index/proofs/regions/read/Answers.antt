@@ -1,5 +1,4 @@
 -- `read` meets its contract. The loop's invariant: the bytes so far are the first, and the next is in the region where it stands. Assumes nothing.
-use Prim.Native.Nat.{◌-◌}
 use borrow.Author.Rules.{rules}
 use Rattle.index.proofs.RegionRead.{read_none, reading_none, reading_held, reading_numbered, read_all, reading_more, read_end}
 use Rattle.index.proofs.regions.read.Goals as goal

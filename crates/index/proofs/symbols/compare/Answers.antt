@@ -1,5 +1,4 @@
 -- `compare` meets its contract. The loop's invariant: the names compare as what is left of them does. Assumes nothing.
-use Prim.Native.Nat.{◌-◌}
 use native.Mathlib.Omega.{arith}
 use borrow.Author.Rules.{rules}
 use Rattle.index.specs.Symbols.{order_of}

@@ -1,6 +1,5 @@
 -- `fill_symbols` meets its contract. The loop's invariant: the entries made are right, and the search stands where each later name can still find its symbol.
 -- Assumes nothing.
-use Prim.Native.Nat.{◌-◌}
 use borrow.Author.Rules.{rules}
 use Rattle.index.proofs.SymbolMerge.{merge_none, merge_text, merge_passed, merge_room, merge_more, merge_done}
 use Rattle.index.proofs.symbols.fill_symbols.Goals as goal

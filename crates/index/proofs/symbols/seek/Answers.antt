@@ -1,5 +1,4 @@
 -- `seek` meets its contract. The loop's invariant: the symbols before the one where it stands have names before the name sought. Assumes nothing.
-use Prim.Native.Nat.{◌-◌}
 use native.Mathlib.Omega.{arith}
 use borrow.Author.Rules.{rules}
 use Rattle.index.proofs.SymbolSearch.{seek_whole, seek_named, seek_skip, seek_inside, seek_stands, seek_passes, seek_equal, seek_greater, seek_end}

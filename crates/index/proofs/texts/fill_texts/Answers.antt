@@ -1,6 +1,5 @@
 -- `fill_texts` meets its contract. The loop's invariant: the text before which it stands is numbered by how many entries are made, and they are right.
 -- Assumes nothing.
-use Prim.Native.Nat.{◌-◌}
 use borrow.Author.Rules.{rules}
 use Rattle.index.proofs.TextIndex.{texts_none, text_room, text_filled, texts_filled}
 use Rattle.index.proofs.texts.fill_texts.Goals as goal

@@ -1,5 +1,5 @@
-use Rattle.std.proofs.Common.{◌∙◌, rules}
-use Rattle.operations.proofs.Asking.{sent_size, sent_room, sends_of}
+use Rattle.std.proofs.Common.{rules}
+use Rattle.operations.proofs.Asking.{sent_room, sends_of}
 use Rattle.operations.proofs.Taking.{follows_none, follows_limit, follows_asked}
 use Rattle.operations.proofs.calls.follow.Goals as goal
 

@@ -1,4 +1,4 @@
-use Rattle.std.proofs.Common.{◌-◌, arith, rules}
+use Rattle.std.proofs.Common.{arith, rules}
 use Rattle.hosting.proofs.Shapes.{room}
 use Rattle.operations.proofs.Taking.{so_far_start, so_far_fine, so_far_open, so_far_next, so_far_more, so_far_end}
 use Rattle.operations.proofs.calls.take_all.Goals as goal

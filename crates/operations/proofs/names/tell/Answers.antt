@@ -1,5 +1,5 @@
-use Rattle.std.proofs.Common.{◌∙◌, rules}
-use Rattle.operations.proofs.Asking.{sent_size, sent_room, sends_of}
+use Rattle.std.proofs.Common.{rules}
+use Rattle.operations.proofs.Asking.{sent_room, sends_of}
 use Rattle.operations.proofs.names.tell.Goals as goal
 
 pub set_word-requires : goal.set_word-requires

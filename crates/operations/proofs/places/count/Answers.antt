@@ -1,4 +1,4 @@
-use Rattle.std.proofs.Common.{◌-◌, arith, rules}
+use Rattle.std.proofs.Common.{arith, rules}
 use Rattle.operations.proofs.Counting.{rest_start, rest_more, rest_end, rest_room, rest_on}
 use Rattle.operations.proofs.places.count.Goals as goal
 

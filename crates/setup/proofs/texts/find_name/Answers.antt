@@ -1,5 +1,4 @@
 -- `find_name` meets its contract. The loop's invariant: no name before the one at the place has the text. Assumes nothing.
-use Prim.Native.Nat.{◌-◌}
 use Rattle.setup.proofs.NameSearch.{seek_none, seek_inside, seek_room, seek_on, seek_found, seek_done}
 use borrow.Author.Rules.{rules}
 use Rattle.setup.proofs.texts.find_name.Goals as goal

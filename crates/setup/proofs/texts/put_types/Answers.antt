@@ -1,5 +1,4 @@
 -- `put_types` meets its contract. The loop's invariant: the first i types are put. Assumes nothing.
-use Prim.Native.Nat.{◌-◌}
 use Rattle.setup.proofs.TypeLaws.{coded_type}
 use Rattle.setup.proofs.SpellLaws.{spell_none, spell_few, spell_inside, coded_pointee, spell_room, spell_more, spell_done}
 use borrow.Author.Rules.{rules}

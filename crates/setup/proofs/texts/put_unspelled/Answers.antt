@@ -1,5 +1,4 @@
 -- `put_unspelled` meets its contract. The loop's invariant: the types up to i are put. Assumes nothing.
-use Prim.Native.Nat.{◌-◌}
 use Rattle.setup.proofs.TypeLaws.{coded_type}
 use Rattle.setup.proofs.SpellLaws.{unspelled_none, unspelled_more, unspelled_done}
 use borrow.Author.Rules.{rules}

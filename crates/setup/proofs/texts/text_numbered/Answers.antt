@@ -1,5 +1,4 @@
 -- `text_numbered` meets its contract. The loop's invariant: text i stands at the place. Assumes nothing.
-use Prim.Native.Nat.{◌-◌}
 use native.Mathlib.Omega.{arith}
 use Rattle.setup.proofs.TextWalk.{walking_none, walking_inside, walking_room, walking_on, walking_found}
 use borrow.Author.Rules.{rules}

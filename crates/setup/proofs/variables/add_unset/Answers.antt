@@ -1,5 +1,4 @@
 -- `add_unset` meets its contract. The loop's invariant: of the first k variables, those that were not set are unknown. Assumes nothing.
-use Prim.Native.Nat.{◌-◌}
 use Rattle.setup.proofs.SettingLaws.{end_none, end_more, end_done}
 use borrow.Author.Rules.{rules}
 use Rattle.setup.proofs.variables.add_unset.Goals as goal

@@ -1,5 +1,4 @@
 -- `declare_all` meets its contract. The loop's invariant: the first k variables are declared. Assumes nothing.
-use Prim.Native.Nat.{◌-◌}
 use Rattle.setup.proofs.DeclareLaws.{declare_none, declare_coded, declare_more, declare_done}
 use borrow.Author.Rules.{rules}
 use Rattle.setup.proofs.variables.declare_all.Goals as goal

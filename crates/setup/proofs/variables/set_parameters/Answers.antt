@@ -1,5 +1,4 @@
 -- `set_parameters` meets its contract. The loop's invariant: the first k parameters are set. Assumes nothing.
-use Prim.Native.Nat.{◌-◌}
 use Rattle.setup.proofs.SettingLaws.{start_none, start_more, start_done}
 use borrow.Author.Rules.{rules}
 use Rattle.setup.proofs.variables.set_parameters.Goals as goal

@@ -4,7 +4,6 @@ use Rattle.text.proofs.PutLaws.{left_all}
 use Rattle.text.proofs.ReadLaws.{taken_named}
 use Rattle.text.proofs.NameLaws.{names_next, names_last}
 use Rattle.files.specs.Program.{texts_in}
-use Prim.Native.Nat.{◌-◌}
 use borrow.Author.Rules.{rules}
 use Rattle.text.proofs.steps.put_names.Goals as goal
 

@@ -1,5 +1,4 @@
 use Rattle.workspace.proofs.CopyLaws.{copy_start, copy_room, copy_more, copy_done}
-use Prim.Native.Nat.{◌-◌}
 use borrow.Author.Rules.{rules}
 use Rattle.workspace.proofs.variables.copy_variables.Goals as goal
 

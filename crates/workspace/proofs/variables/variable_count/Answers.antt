@@ -1,5 +1,4 @@
 use Rattle.workspace.proofs.CopyLaws.{count_start, count_more, count_done}
-use Prim.Native.Nat.{◌-◌}
 use borrow.Author.Rules.{rules}
 use Rattle.workspace.proofs.variables.variable_count.Goals as goal
 
