@@ -31,10 +31,10 @@ pub args-evaluate-requires : goal.args-evaluate-requires
 args-evaluate-requires t c = (search (rules, here_falls), (search rules, search (rules, arg_here)))
 
 pub args-returns-then-not-evaluate : goal.args-returns-then-not-evaluate
-args-returns-then-not-evaluate t c = args_stopped c.loop-i.invariant.0 c.loop-i-test.true c.evaluate.ensures.0 (not-true _ (ap not c.if-not-evaluate.true))
+args-returns-then-not-evaluate t c = args_stopped c.loop-i.invariant.0 c.loop-i-test.true c.evaluate.ensures.0 c.if-not-evaluate.true
 
 pub args-value-v-requires : goal.args-value-v-requires
-args-value-v-requires t c = ((arg_ready c.loop-i.invariant.0 c.loop-i-test.true c.evaluate.ensures.0 (not-false _ (ap not c.if-not-evaluate.false))).ready.fit.room, omega arith)
+args-value-v-requires t c = ((arg_ready c.loop-i.invariant.0 c.loop-i-test.true c.evaluate.ensures.0 c.if-not-evaluate.false).ready.fit.room, omega arith)
 
 pub args-put_val-requires : goal.args-put_val-requires
 args-put_val-requires t c = record { k_bound = args_room c.loop-i.invariant.0 c.loop-i-test.true; vals_len = c.loop-i.invariant.0.long }
@@ -47,7 +47,7 @@ args-loop-i-smaller t c = args_less c.loop-i.invariant.0 c.loop-i-test.true c.ne
 
 pub args-loop-i-preserved : goal.args-loop-i-preserved
 args-loop-i-preserved t c = let l = c.loop-i.invariant in (
-  args_next l.0 c.loop-i-test.true c.evaluate.ensures.0 (not-false _ (ap not c.if-not-evaluate.false)) c.next-more.ensures c.value-v.ensures c.put_val.ensures c.put_val.auto.vals,
+  args_next l.0 c.loop-i-test.true c.evaluate.ensures.0 c.if-not-evaluate.false c.next-more.ensures c.value-v.ensures c.put_val.ensures c.put_val.auto.vals,
   c.evaluate.auto.ws ∙ l.1,
   c.evaluate.auto.out ∙ l.2,
   c.put_val.auto.vals ∙ l.3,

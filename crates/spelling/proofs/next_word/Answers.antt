@@ -5,10 +5,8 @@ use mathlib.Core.Path.{◌≡◌, refl, sym, ap, ◌∙◌}
 use mathlib.Core.Bool.{false}
 use Prim.Native.Nat.{◌-◌, ◌≤◌}
 use lib.ListN.{length, take, drop}
-use borrow.Author.Tests.{not-true, not-false}
 use Rattle.spelling.specs.Spelling.{base_of, dropped}
 use Rattle.spelling.proofs.Words.{end_within, from_end, base_kept, base_skipped}
-use Rattle.std.proofs.Common.{not}
 use Rattle.spelling.proofs.next_word.Goals as goal
 
 pub loop-i-init : goal.loop-i-init
@@ -32,7 +30,7 @@ returns-then-not-is_dropped c = let s = c.args.s.now in
     let e = c.piece_end-end.result in
     let q = c.piece_end-end.ensures in
     let h : i ≤ length s = c.loop-i-test.true in
-    let t : dropped (take (e - i) (drop i s)) ≡ false = sym c.is_dropped.ensures ∙ not-true _ (ap not c.if-not-is_dropped.true) in
+    let t : dropped (take (e - i) (drop i s)) ≡ false = sym c.is_dropped.ensures ∙ c.if-not-is_dropped.true in
     record { within = end_within s i e h q; order = omega arith; words = c.loop-i.invariant ∙ base_kept s i e h q t }
 
 pub overflow_add-i : goal.overflow_add-i
@@ -47,7 +45,7 @@ loop-i-preserved c = let s = c.args.s.now in
     let e = c.piece_end-end.result in
     let q = c.piece_end-end.ensures in
     let h : i ≤ length s = c.loop-i-test.true in
-    c.loop-i.invariant ∙ base_skipped s i e h q (sym c.is_dropped.ensures ∙ not-false _ (ap not c.if-not-is_dropped.false))
+    c.loop-i.invariant ∙ base_skipped s i e h q (sym c.is_dropped.ensures ∙ c.if-not-is_dropped.false)
 
 pub returns : goal.returns
 returns c = c.loop-i.invariant ∙ ap base_of (from_end c.args.s.now c.loop-i.i c.loop-i-test.false)
