@@ -42,8 +42,8 @@ fn run_on(
     index: Indexed,
     r: Walked,
 ) -> Answer
-    requires call_value { refusal routine.now world.now call.now ≡ 0 }
-    requires workspace_needed_in_bounds { workspace_needed ≤ length ws.old }
+    requires files_accepted { refusal routine.now world.now call.now ≡ 0 }
+    requires workspace_long { workspace_needed ≤ length ws.old }
     requires tabled { Tabled routine.now world.now ws.old index }
     requires ended { Ended (ran routine.now world.now call.now) (limits_of call.now).steps r.stop ws.old r.at }
     ensures { AnswersFrom routine.now world.now call.now buffer.old ws.old result.number result.length buffer.new ws.new }
@@ -69,8 +69,8 @@ fn run_accepted(
     buffer: &mut [u8],
     ws: &mut [u8],
 ) -> Answer
-    requires call_value { refusal routine.now world.now call.now ≡ 0 }
-    requires workspace_needed_in_bounds { workspace_needed ≤ length ws.old }
+    requires files_accepted { refusal routine.now world.now call.now ≡ 0 }
+    requires workspace_long { workspace_needed ≤ length ws.old }
     ensures { Answered routine.now world.now call.now buffer.old ws.old result.number result.length buffer.new ws.new }
 {
     let index = setup::set_tables(routine, world, ws);

@@ -31,7 +31,7 @@ fn print_header(
     out: &mut [u8],
 ) -> io::Result<()>
     requires texts_indexed { (TextsIndexed names.now part.now) × ((10 ≤ length head.now) × (number_at head.now 0 2 < text_count names.now)) }
-    requires in_bounds { 8192 ≤ length out.old }
+    requires out_long { 8192 ≤ length out.old }
 {
     let size = text::header(names, part, head, out);
     print_line(rt, out, size)
@@ -45,7 +45,7 @@ fn print_steps(
     out: &mut [u8],
 ) -> io::Result<()>
     requires texts_indexed { (TextsIndexed names.now part.now) × (StepsLeft (text_count names.now) steps.now) }
-    requires in_bounds { 8192 ≤ length out.old }
+    requires out_long { 8192 ≤ length out.old }
 {
     let mut at = 0;
     while at < steps.len() {
@@ -64,7 +64,7 @@ fn print_stop(
     out: &mut [u8],
 ) -> io::Result<()>
     requires texts_indexed { (TextsIndexed names.now part.now) × (StopThere (text_count names.now) stop.now) }
-    requires in_bounds { 8192 ≤ length out.old }
+    requires out_long { 8192 ≤ length out.old }
 {
     let size = text::stop_line(names, part, stop, out);
     print_line(rt, out, size)
@@ -78,7 +78,7 @@ fn print_variables(
     out: &mut [u8],
 ) -> io::Result<()>
     requires texts_indexed { (TextsIndexed names.now part.now) × (VariablesLeft (text_count names.now) variables.now) }
-    requires in_bounds { 8192 ≤ length out.old }
+    requires out_long { 8192 ≤ length out.old }
 {
     let mut at = 0;
     while at < variables.len() {

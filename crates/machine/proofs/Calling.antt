@@ -37,8 +37,8 @@ no_values : (s : List ℕ) (k : ℕ) → ValuesIn s k 0 []
 no_values s k = record { bytes = refl; many = refl; whole = tt }
 
 module _ (vals vals' vals'' : List ℕ) (k : ℕ) {v : Val} (room : k * 14 + 14 ≤ length vals) (put : PutsVal vals k v vals') (kept : take ((k + 1) * 14) vals'' ≡ take ((k + 1) * 14) vals') where
-  first_value : part (k * 14) 14 vals'' ≡ val_bytes v
-  first_value =
+  first_told : part (k * 14) 14 vals'' ≡ val_bytes v
+  first_told =
       sym (part_take (k * 14) 14 ((k + 1) * 14) vals'' (omega arith)) ∙ ap (λ (s : List ℕ). take 14 (drop (k * 14) s)) kept ∙ part_take (k * 14) 14 ((k + 1) * 14) vals' (omega arith)
       ∙ ap (λ (s : List ℕ). take 14 (drop (k * 14) s)) put.bytes
       ∙ ap (take 14) (drop_sets_at (val_bytes v) vals (k * 14) (omega (arith, length_val_bytes v)))
@@ -48,7 +48,7 @@ module _ (vals vals' vals'' : List ℕ) (k : ℕ) {v : Val} (room : k * 14 + 14 
   unfolding val_bytes
   more_values {c} {vs} h = record {
     bytes = ap (λ (j : ℕ). take j (drop (k * 14) vals'')) (split c) ∙ take-add 14 (c * 14) (drop (k * 14) vals'')
-        ∙ ap₂ (λ (a b : List ℕ). a ++ b) first_value (ap (take (c * 14)) (drop-drop 14 (k * 14) vals'' ∙ ap (λ (j : ℕ). drop j vals'') (up k)) ∙ h.bytes);
+        ∙ ap₂ (λ (a b : List ℕ). a ++ b) first_told (ap (take (c * 14)) (drop-drop 14 (k * 14) vals'' ∙ ap (λ (j : ℕ). drop j vals'') (up k)) ∙ h.bytes);
     many = omega (arith, h.many);
     whole = (put.whole, h.whole);
   }

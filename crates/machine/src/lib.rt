@@ -75,7 +75,7 @@ fn execute_assign(
 ) -> bool
     requires ready_by { ReadyBy nodes.now.now symbols.now.now regions.now.now ws.old }
     requires fine { Fine nodes.now.now n }
-    requires n_value { kind_of nodes.now.now n ≡ 13 }
+    requires of_kind { kind_of nodes.now.now n ≡ 13 }
     ensures { Assigns nodes.now.now symbols.now.now regions.now.now n ws.old out.old result ws.new out.new }
 {
     let left = n + 1;
@@ -171,7 +171,7 @@ fn cast(
 ) -> bool
     requires ready_by { ReadyBy nodes.now.now symbols.now.now regions.now.now ws.old }
     requires fine { Fine nodes.now.now n }
-    requires n_value { kind_of nodes.now.now n ≡ 8 }
+    requires of_kind { kind_of nodes.now.now n ≡ 8 }
     ensures { Evaluates nodes.now.now symbols.now.now regions.now.now n ws.old out.old result ws.new out.new }
 {
     if !operand(nodes, symbols, regions, ws, out, n + 1) {
@@ -192,7 +192,7 @@ fn deref(
 ) -> bool
     requires ready_by { ReadyBy nodes.now.now symbols.now.now regions.now.now ws.old }
     requires fine { Fine nodes.now.now n }
-    requires n_value { kind_of nodes.now.now n ≡ 9 }
+    requires of_kind { kind_of nodes.now.now n ≡ 9 }
     ensures { Evaluates nodes.now.now symbols.now.now regions.now.now n ws.old out.old result ws.new out.new }
 {
     let pointer = places::target_of(*nodes, ws, n + 1);
@@ -219,7 +219,7 @@ fn ternary(
 ) -> bool
     requires ready_by { ReadyBy nodes.now.now symbols.now.now regions.now.now ws.old }
     requires fine { Fine nodes.now.now n }
-    requires n_value { kind_of nodes.now.now n ≡ 11 }
+    requires of_kind { kind_of nodes.now.now n ≡ 11 }
     ensures { Evaluates nodes.now.now symbols.now.now regions.now.now n ws.old out.old result ws.new out.new }
 {
     let mut condition = Val::unknown(64, false);
@@ -250,7 +250,7 @@ fn binary(
 ) -> bool
     requires ready_by { ReadyBy nodes.now.now symbols.now.now regions.now.now ws.old }
     requires fine { Fine nodes.now.now n }
-    requires n_value { kind_of nodes.now.now n ≡ 12 }
+    requires of_kind { kind_of nodes.now.now n ≡ 12 }
     ensures { Evaluates nodes.now.now symbols.now.now regions.now.now n ws.old out.old result ws.new out.new }
 {
     let right = places::next(*nodes, n + 1);
@@ -290,7 +290,7 @@ fn assigned(
 ) -> bool
     requires ready_by { ReadyBy nodes.now.now symbols.now.now regions.now.now ws.old }
     requires fine { Fine nodes.now.now n }
-    requires n_value { kind_of nodes.now.now n ≡ 13 }
+    requires of_kind { kind_of nodes.now.now n ≡ 13 }
     ensures { (Evaluates nodes.now.now symbols.now.now regions.now.now n ws.old out.old result ws.new out.new) × (Assigns nodes.now.now symbols.now.now regions.now.now n ws.old out.old result ws.new out.new) }
 {
     if !assign(nodes, symbols, regions, ws, out, n) {
@@ -311,7 +311,7 @@ fn assign(
 ) -> bool
     requires ready_by { ReadyBy nodes.now.now symbols.now.now regions.now.now ws.old }
     requires fine { Fine nodes.now.now n }
-    requires n_value { kind_of nodes.now.now n ≡ 13 }
+    requires of_kind { kind_of nodes.now.now n ≡ 13 }
     ensures { Assigns nodes.now.now symbols.now.now regions.now.now n ws.old out.old result ws.new out.new }
 {
     let left = n + 1;
@@ -369,9 +369,9 @@ fn assign_struct(
 ) -> bool
     requires ready_by { ReadyBy nodes.now.now symbols.now.now regions.now.now ws.old }
     requires fine { Fine nodes.now.now left }
-    requires fine_2 { Fine nodes.now.now right }
+    requires fine_right { Fine nodes.now.now right }
     requires left_lt_right { left < right }
-    requires right_value { kind_of nodes.now.now right ≡ 17 }
+    requires right_of_kind { kind_of nodes.now.now right ≡ 17 }
     ensures { AssignsStruct nodes.now.now symbols.now.now regions.now.now left right ws.old out.old result ws.new out.new }
 {
     let kind = nodes::kind(*nodes, left);
@@ -398,7 +398,7 @@ fn store_struct(
 ) -> bool
     requires ready_by { ReadyBy nodes.now.now symbols.now.now regions.now.now ws.old }
     requires fine { Fine nodes.now.now right }
-    requires right_value { kind_of nodes.now.now right ≡ 17 }
+    requires right_of_kind { kind_of nodes.now.now right ≡ 17 }
     ensures { StoresStruct nodes.now.now symbols.now.now regions.now.now base right (result_in ws.old) ws.old out.old result ws.new out.new }
 {
     let v = registers::value(ws, results::RESULT);
@@ -455,7 +455,7 @@ fn call(
 ) -> bool
     requires ready_by { ReadyBy nodes.now.now symbols.now.now regions.now.now ws.old }
     requires fine { Fine nodes.now.now n }
-    requires n_value { kind_of nodes.now.now n ≡ 14 }
+    requires of_kind { kind_of nodes.now.now n ≡ 14 }
     ensures { Evaluates nodes.now.now symbols.now.now regions.now.now n ws.old out.old result ws.new out.new }
 {
     let mut vals = [0u8; 224];
@@ -515,7 +515,7 @@ fn intrinsic(
 ) -> bool
     requires ready_by { ReadyBy nodes.now.now symbols.now.now regions.now.now ws.old }
     requires fine { Fine nodes.now.now n }
-    requires n_value { kind_of nodes.now.now n ≡ 15 }
+    requires of_kind { kind_of nodes.now.now n ≡ 15 }
     ensures { Evaluates nodes.now.now symbols.now.now regions.now.now n ws.old out.old result ws.new out.new }
 {
     let end = places::next(*nodes, n);
@@ -566,7 +566,7 @@ fn returned(
 ) -> bool
     requires ready_by { ReadyBy nodes.now.now symbols.now.now regions.now.now ws.old }
     requires fine { Fine nodes.now.now n }
-    requires n_value { kind_of nodes.now.now n ≡ 16 }
+    requires of_kind { kind_of nodes.now.now n ≡ 16 }
     ensures { Evaluates nodes.now.now symbols.now.now regions.now.now n ws.old out.old result ws.new out.new }
 {
     let end = places::next(*nodes, n);

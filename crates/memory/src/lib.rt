@@ -240,7 +240,7 @@ fn put_entry(part: &mut [u8], i: usize, address: u64, byte: u8)
 
 // The entries from a place on of the low bytes of a number, the lowest first, at addresses that do not wrap.
 fn put_run(part: &mut [u8], i: usize, address: u64, number: u64, bytes: usize)
-    requires entry_size_in_bounds { (i + bytes) * entry_size ≤ length part.old }
+    requires entries_fit { (i + bytes) * entry_size ≤ length part.old }
     requires bytes_bound { address + bytes ≤ 2 ^ 64 }
     ensures { part.new ≡ sets part.old (i * entry_size) (writes entry (run_of address (le bytes number))) }
 {
@@ -303,7 +303,7 @@ fn insert(
     bytes: usize,
 ) -> Stored
     requires sorted { Sorted part.old count × Spans (entries part.old count) count span address bytes }
-    requires bytes_nonzero { (0 < bytes) × (bytes ≤ 8) × (address + bytes ≤ 2 ^ 64) }
+    requires span_fits { (0 < bytes) × (bytes ≤ 8) × (address + bytes ≤ 2 ^ 64) }
     ensures { Stores (stores address (le bytes number) (entries part.old count)) part.old part.new result }
 {
     let next = span.at + bytes + (count - span.end);
@@ -344,8 +344,8 @@ fn add(
     bytes: usize,
 ) -> Stored
     requires sorted { Sorted part.old count × Spans (entries part.old count) count span address bytes }
-    requires bytes_nonzero { (0 < bytes) × (bytes ≤ 8) × (address + bytes ≤ 2 ^ 64) }
-    requires first_value { first ≡ first_in part.old count }
+    requires span_fits { (0 < bytes) × (bytes ≤ 8) × (address + bytes ≤ 2 ^ 64) }
+    requires first_told { first ≡ first_in part.old count }
     ensures { Stores (stores address (le bytes number) (entries part.old count)) part.old part.new result }
 {
     if span.at == count {
@@ -382,7 +382,7 @@ pub fn store(part: &mut [u8], count: usize, address: u64, byte: u8) -> Stored
 // or after one move of those on one side.
 fn store_run(part: &mut [u8], count: usize, address: u64, number: u64, bytes: usize) -> Stored
     requires sorted { Sorted part.old count }
-    requires bytes_nonzero { (0 < bytes) × (bytes ≤ 8) × (address + bytes ≤ 2 ^ 64) }
+    requires span_fits { (0 < bytes) × (bytes ≤ 8) × (address + bytes ≤ 2 ^ 64) }
     ensures { Stores (stores address (le bytes number) (entries part.old count)) part.old part.new result }
 {
     let first = first_of(part, count);
@@ -445,7 +445,7 @@ pub fn store_number(
 // The Memory body, at the front of out.
 pub fn copy_out(part: &[u8], count: usize, out: &mut [u8])
     requires sorted { Sorted part.now count }
-    requires entry_size_in_bounds { count * entry_size ≤ length out.old }
+    requires entries_fit { count * entry_size ≤ length out.old }
     ensures { out.new ≡ memory_body (entries part.now count) ++ drop (count * entry_size) out.old }
 {
     let from = first_of(part, count) * ENTRY;

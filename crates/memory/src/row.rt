@@ -25,7 +25,7 @@ pub enum Next {
 // The entries of so many bytes from an address on.
 pub fn span_of(row: &[u8], count: usize, address: u64, bytes: usize) -> Span
     requires row { IsRow row.now count }
-    requires bytes_nonzero { (0 < bytes) × (address + bytes ≤ 2 ^ 64) }
+    requires span_fits { (0 < bytes) × (address + bytes ≤ 2 ^ 64) }
     ensures { Spans (row_of row.now count) count result address bytes }
 {
     let at = lower(row, count, address);
@@ -53,7 +53,7 @@ pub fn span_of_byte(row: &[u8], count: usize, address: u64) -> Span
 // The byte at an address whose rank is known.
 fn find_at(row: &[u8], count: usize, address: u64, at: usize) -> Found
     requires row { IsRow row.now count }
-    requires at_value { at ≡ rank address (row_of row.now count) }
+    requires at_rank { at ≡ rank address (row_of row.now count) }
     ensures { result ≡ found_as (to_byte (find_in address (row_of row.now count))) }
 {
     if at < count {
@@ -84,7 +84,7 @@ fn after(address: u64, at: usize) -> usize
 // The byte at an address whose rank is known, the overlay's or else the image's first, and the rank of the next address.
 fn next_byte(row: &[u8], count: usize, image: Image, address: u64, at: usize) -> Next
     requires row { IsRow row.now count }
-    requires at_value { at ≡ rank address (row_of row.now count) }
+    requires at_rank { at ≡ rank address (row_of row.now count) }
     ensures { result ≡ next_as (byte_or (to_byte (find_in address (row_of row.now count))) (le image.count image.number)) (rank ((address + 1) % 2 ^ 64) (row_of row.now count)) }
 {
     let f = find_at(row, count, address, at);
@@ -110,7 +110,7 @@ fn joined(number: u64, i: usize, byte: u8) -> u64
 // Whether none of so many addresses from one on, whose rank is known, has an entry. The last addresses, which might wrap, are left to the loop.
 fn untouched(row: &[u8], count: usize, address: u64, at: usize, bytes: usize) -> bool
     requires row { IsRow row.now count × (bytes ≤ 8) }
-    requires at_value { at ≡ rank address (row_of row.now count) }
+    requires at_rank { at ≡ rank address (row_of row.now count) }
     ensures { result ≡ true → Untouched (row_of row.now count) address bytes }
 {
     if u64::MAX - 8 < address {
@@ -155,7 +155,7 @@ fn load_each(
     bytes: usize,
 ) -> Loaded
     requires row { IsRow row.now count × (bytes ≤ 8) }
-    requires at_value { at ≡ rank address (row_of row.now count) }
+    requires at_rank { at ≡ rank address (row_of row.now count) }
     ensures { result ≡ loaded_as (load_in (row_of row.now count) (le image.count image.number) address bytes) }
 {
     let mut place = at;

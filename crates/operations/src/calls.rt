@@ -27,7 +27,7 @@ pub fn put_val(vals: &mut [u8], k: usize, v: Val)
 
 // `call` is asked, if the callee is a FunctionName and the depth limit lets it be. The world answers none.
 fn follow(nodes: &[u8], ws: &mut [u8], out: &mut [u8], vals: &[u8], count: usize, n: usize)
-    requires workspace_size_in_bounds { workspace_size ≤ length ws.old }
+    requires workspace_long { workspace_size ≤ length ws.old }
     requires fine { Fine nodes.now n }
     requires count_bound { count ≤ 16 }
     requires vals_len { length vals.now ≡ 224 }
@@ -51,7 +51,7 @@ fn follow(nodes: &[u8], ws: &mut [u8], out: &mut [u8], vals: &[u8], count: usize
 
 // The argument at node n takes the address of a local: it becomes unknown, and is noted.
 fn take(nodes: &[u8], ws: &mut [u8], n: usize)
-    requires workspace_size_in_bounds { workspace_size ≤ length ws.old }
+    requires workspace_long { workspace_size ≤ length ws.old }
     requires fine { Fine nodes.now n }
     requires note_open { NoteOpen ws.old }
     ensures { Takes nodes.now n ws.old ws.new }
@@ -75,7 +75,7 @@ fn take(nodes: &[u8], ws: &mut [u8], n: usize)
 
 // The same of each argument from node first up to node end.
 fn take_all(nodes: &[u8], ws: &mut [u8], first: usize, end: usize)
-    requires workspace_size_in_bounds { workspace_size ≤ length ws.old }
+    requires workspace_long { workspace_size ≤ length ws.old }
     requires fine_args { FineArgs nodes.now first end 0 }
     ensures { TakesAll nodes.now first end ws.old ws.new }
 {
@@ -96,9 +96,9 @@ pub fn called(
     count: usize,
     n: usize,
 ) -> bool
-    requires workspace_size_in_bounds { workspace_size ≤ length ws.old }
+    requires workspace_long { workspace_size ≤ length ws.old }
     requires fine { Fine nodes.now n }
-    requires n_value { kind_of nodes.now n ≡ 14 }
+    requires of_kind { kind_of nodes.now n ≡ 14 }
     requires count_bound { count ≤ 16 }
     requires vals_len { length vals.now ≡ 224 }
     ensures { Calls nodes.now vals.now count n ws.old out.old result ws.new out.new }

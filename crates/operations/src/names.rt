@@ -82,10 +82,10 @@ fn tell(ws: &mut [u8], out: &mut [u8], kind: Symbol, name: usize, answer: Told)
 
 // `address_of` of the name at node n.
 fn ask_address(nodes: &[u8], symbols: &[u8], ws: &mut [u8], out: &mut [u8], n: usize) -> Told
-    requires workspace_size_in_bounds { workspace_size ≤ length ws.old }
+    requires workspace_long { workspace_size ≤ length ws.old }
     requires symbols_read { SymbolsRead nodes.now symbols.now (tables ws.old) }
     requires fine { Fine nodes.now n }
-    requires n_value { kind_of nodes.now n ≡ 1 }
+    requires of_kind { kind_of nodes.now n ≡ 1 }
     ensures { AsksAddress nodes.now symbols.now n ws.old out.old result ws.new out.new }
 {
     let name = nodes::reference(nodes, n);
@@ -97,10 +97,10 @@ fn ask_address(nodes: &[u8], symbols: &[u8], ws: &mut [u8], out: &mut [u8], n: u
 
 // `size_of` of the name at node n.
 fn ask_size(nodes: &[u8], symbols: &[u8], ws: &mut [u8], out: &mut [u8], n: usize) -> Told
-    requires workspace_size_in_bounds { workspace_size ≤ length ws.old }
+    requires workspace_long { workspace_size ≤ length ws.old }
     requires symbols_read { SymbolsRead nodes.now symbols.now (tables ws.old) }
     requires fine { Fine nodes.now n }
-    requires n_value { kind_of nodes.now n ≡ 1 }
+    requires of_kind { kind_of nodes.now n ≡ 1 }
     ensures { AsksSize nodes.now symbols.now n ws.old out.old result ws.new out.new }
 {
     let name = nodes::reference(nodes, n);
@@ -130,7 +130,7 @@ fn width_of(known: bool, size: u64) -> u32
 
 // What is unknown of a name: the type that it is declared with.
 fn undefined(ws: &mut [u8], name: usize) -> bool
-    requires workspace_size_in_bounds { workspace_size ≤ length ws.old }
+    requires workspace_long { workspace_size ≤ length ws.old }
     requires name_bound { name < 512 }
     ensures { Gives ws.old (unknown_val (type_or (declared_at (tables ws.old) name))) result ws.new }
 {
@@ -152,7 +152,7 @@ fn symbol(
 ) -> bool
     requires ready_in { ReadyIn (given nodes.now symbols.now regions.now) ws.old }
     requires fine { Fine nodes.now n }
-    requires n_value { kind_of nodes.now n ≡ 1 }
+    requires of_kind { kind_of nodes.now n ≡ 1 }
     ensures { Goes (given nodes.now symbols.now regions.now) (λ x. symbol_val x.env (ref_of nodes.now n)) ws.old out.old (end_in result ws.new) ws.new out.new }
 {
     let a = ask_address(nodes, symbols, ws, out, n);
@@ -179,7 +179,7 @@ pub fn variable(
 ) -> bool
     requires ready_in { ReadyIn (given nodes.now symbols.now regions.now) ws.old }
     requires fine { Fine nodes.now n }
-    requires n_value { kind_of nodes.now n ≡ 1 }
+    requires of_kind { kind_of nodes.now n ≡ 1 }
     ensures { Goes (given nodes.now symbols.now regions.now) (λ x. read_variable x.env (ref_of nodes.now n)) ws.old out.old (end_in result ws.new) ws.new out.new }
 {
     let slot = variables::variable(ws, nodes::reference(nodes, n));
@@ -192,7 +192,7 @@ pub fn variable(
 // The value at node n, if it is at hand: a Constant's, or that of a variable that is set.
 // Most operands are such, and nothing is to be evaluated for them: a caller that tries this first is spared a call of the evaluator.
 pub fn at_hand(nodes: &[u8], ws: &[u8], n: usize) -> Slot
-    requires workspace_size_in_bounds { workspace_size ≤ length ws.now }
+    requires workspace_long { workspace_size ≤ length ws.now }
     requires fine { Fine nodes.now n }
     ensures { AtHand nodes.now n ws.now result }
 {
@@ -206,7 +206,7 @@ pub fn at_hand(nodes: &[u8], ws: &[u8], n: usize) -> Slot
 
 // The address of what is at node n.
 pub fn address(nodes: &[u8], symbols: &[u8], ws: &mut [u8], out: &mut [u8], n: usize) -> bool
-    requires workspace_size_in_bounds { workspace_size ≤ length ws.old }
+    requires workspace_long { workspace_size ≤ length ws.old }
     requires symbols_read { SymbolsRead nodes.now symbols.now (tables ws.old) }
     requires fine { Fine nodes.now n }
     ensures { Addresses nodes.now symbols.now n ws.old out.old result ws.new out.new }
@@ -236,7 +236,7 @@ pub fn write_symbol(
     requires fit { Fit ws.old (counts_in ws.old).stored }
     requires symbols_read { SymbolsRead nodes.now symbols.now (tables ws.old) }
     requires fine { Fine nodes.now n }
-    requires n_value { kind_of nodes.now n ≡ 1 }
+    requires of_kind { kind_of nodes.now n ≡ 1 }
     ensures { WritesSymbol nodes.now symbols.now n v ws.old out.old result ws.new out.new }
 {
     let name = nodes::reference(nodes, n);
@@ -260,9 +260,9 @@ pub fn write_symbol(
 
 // The variable at node n is assigned with its type, if it is declared; else nothing is done.
 pub fn write_declared(nodes: &[u8], ws: &mut [u8], n: usize, v: Val) -> bool
-    requires workspace_size_in_bounds { workspace_size ≤ length ws.old }
+    requires workspace_long { workspace_size ≤ length ws.old }
     requires fine { Fine nodes.now n }
-    requires n_value { kind_of nodes.now n ≡ 1 }
+    requires of_kind { kind_of nodes.now n ≡ 1 }
     ensures { IfDeclared nodes.now n v ws.old result ws.new }
 {
     let name = nodes::reference(nodes, n);
@@ -282,7 +282,7 @@ pub fn write(nodes: &[u8], symbols: &[u8], ws: &mut [u8], out: &mut [u8], n: usi
     requires fit { Fit ws.old (counts_in ws.old).stored }
     requires symbols_read { SymbolsRead nodes.now symbols.now (tables ws.old) }
     requires fine { Fine nodes.now n }
-    requires n_value { kind_of nodes.now n ≡ 1 }
+    requires of_kind { kind_of nodes.now n ≡ 1 }
     ensures { Writes nodes.now symbols.now n v ws.old out.old result ws.new out.new }
 {
     if write_declared(nodes, ws, n, v) {

@@ -41,8 +41,8 @@ pub fn next(nodes: &[u8], n: usize) -> usize
 
 // What is evaluated for a pointer at node n: what is under it, if it is a Cast to a pointer.
 pub fn target_of(nodes: &[u8], ws: &[u8], n: usize) -> Target
-    requires workspace_size_in_bounds { workspace_size ≤ length ws.now }
-    requires n_in_bounds { n * 20 + 20 ≤ length nodes.now }
+    requires workspace_long { workspace_size ≤ length ws.now }
+    requires node_inside { n * 20 + 20 ≤ length nodes.now }
     requires n_bound { kind_of nodes.now n ≡ 8 → ref_of nodes.now n < 512 }
     ensures { Targets nodes.now ws.now n result }
 {
@@ -84,7 +84,7 @@ fn bytes_of(bits: u32) -> usize
 
 // `read` is asked, and written with the bytes that it answers: in the first pass beside the tables, if it fits there, in the second in the record.
 fn ask_read(ws: &mut [u8], out: &mut [u8], address: u64, size: usize, image: Image)
-    requires workspace_size_in_bounds { workspace_size ≤ length ws.old }
+    requires workspace_long { workspace_size ≤ length ws.old }
     requires count_bound { image.count ≤ 8 }
     ensures { Sends (question_bytes (read_entry address size image.count image.number)) ws.old out.old ws.new out.new }
 {
@@ -179,7 +179,7 @@ pub fn store(ws: &mut [u8], n: usize, ty: Ty, v: Val) -> bool
 // The last result is stored as the field at node n, at its offset from an address.
 pub fn store_field(nodes: &[u8], ws: &mut [u8], n: usize, address: u64) -> bool
     requires fit { Fit ws.old (counts_in ws.old).stored }
-    requires n_in_bounds { n * 20 + 20 ≤ length nodes.now }
+    requires node_inside { n * 20 + 20 ≤ length nodes.now }
     requires n_bound { ref_of nodes.now n < 512 }
     ensures { Works (store_field address (value_of nodes.now n) (type_at (tables ws.old) (ref_of nodes.now n)) (result_in ws.old)) ws.old (unit_in result ws.new) ws.new }
 {
@@ -206,7 +206,7 @@ fn count(nodes: &[u8], n: usize, end: usize) -> u64
 
 // The fields from node n up to node end were stored from an address on.
 pub fn built(nodes: &[u8], ws: &mut [u8], n: usize, end: usize, address: u64) -> bool
-    requires workspace_size_in_bounds { workspace_size ≤ length ws.old }
+    requires workspace_long { workspace_size ≤ length ws.old }
     requires fine_fields { FineFields nodes.now n end }
     ensures { Builds nodes.now n end address ws.old result ws.new }
 {

@@ -18,7 +18,7 @@ use workspace::{registers, types};
 
 // A Constant's value.
 pub fn constant_of(nodes: &[u8], n: usize) -> Val
-    requires n_in_bounds { n * 20 + 20 ≤ length nodes.now }
+    requires node_inside { n * 20 + 20 ≤ length nodes.now }
     requires n_bound { width_of nodes.now n ≤ 8 }
     ensures { result ≡ known_val (field.value_of nodes.now n) (type (width_of nodes.now n * 8) true) }
 {
@@ -28,8 +28,8 @@ pub fn constant_of(nodes: &[u8], n: usize) -> Val
 }
 
 pub fn constant(nodes: &[u8], ws: &mut [u8], n: usize) -> bool
-    requires workspace_size_in_bounds { workspace_size ≤ length ws.old }
-    requires n_in_bounds { n * 20 + 20 ≤ length nodes.now }
+    requires workspace_long { workspace_size ≤ length ws.old }
+    requires node_inside { n * 20 + 20 ≤ length nodes.now }
     requires n_bound { width_of nodes.now n ≤ 8 }
     ensures { Gives ws.old (known_val (field.value_of nodes.now n) (type (width_of nodes.now n * 8) true)) result ws.new }
 {
@@ -39,8 +39,8 @@ pub fn constant(nodes: &[u8], ws: &mut [u8], n: usize) -> bool
 
 // A Register, which has a width only.
 pub fn register(nodes: &[u8], ws: &mut [u8], n: usize) -> bool
-    requires workspace_size_in_bounds { workspace_size ≤ length ws.old }
-    requires n_in_bounds { n * 20 + 20 ≤ length nodes.now }
+    requires workspace_long { workspace_size ≤ length ws.old }
+    requires node_inside { n * 20 + 20 ≤ length nodes.now }
     ensures { Gives ws.old (unknown_val (type (width_of nodes.now n) true)) result ws.new }
 {
     let width = nodes::width(nodes, n);
@@ -63,8 +63,8 @@ pub fn truth(ws: &mut [u8], number: u64) -> bool
 
 // A ConstantCondition.
 pub fn decided(nodes: &[u8], ws: &mut [u8], n: usize) -> bool
-    requires workspace_size_in_bounds { workspace_size ≤ length ws.old }
-    requires n_in_bounds { n * 20 + 20 ≤ length nodes.now }
+    requires workspace_long { workspace_size ≤ length ws.old }
+    requires node_inside { n * 20 + 20 ≤ length nodes.now }
     ensures { Gives ws.old (known_val (flag_of nodes.now n) (type 8 false)) result ws.new }
 {
     let flag = nodes::flag(nodes, n);
@@ -89,8 +89,8 @@ pub fn choose(ws: &mut [u8], condition: Val, then: Val) -> bool
 
 // A Binary's value, by those of its operands.
 pub fn operate(nodes: &[u8], ws: &mut [u8], n: usize, l: Val, r: Val) -> bool
-    requires workspace_size_in_bounds { workspace_size ≤ length ws.old }
-    requires n_in_bounds { n * 20 + 20 ≤ length nodes.now }
+    requires workspace_long { workspace_size ≤ length ws.old }
+    requires node_inside { n * 20 + 20 ≤ length nodes.now }
     ensures { Answers ws.old (binary_of (operator_of (flag_of nodes.now n)) l r) result ws.new }
 {
     let flag = nodes::flag(nodes, n);
@@ -117,8 +117,8 @@ pub fn value_of(ws: &mut [u8]) -> bool
 
 // The type that a node refers to.
 pub fn type_of(nodes: &[u8], ws: &[u8], n: usize) -> Ty
-    requires workspace_size_in_bounds { workspace_size ≤ length ws.now }
-    requires n_in_bounds { n * 20 + 20 ≤ length nodes.now }
+    requires workspace_long { workspace_size ≤ length ws.now }
+    requires node_inside { n * 20 + 20 ≤ length nodes.now }
     requires n_bound { ref_of nodes.now n < 512 }
     ensures { result ≡ type_at (tables ws.now) (ref_of nodes.now n) }
 {
@@ -127,8 +127,8 @@ pub fn type_of(nodes: &[u8], ws: &[u8], n: usize) -> Ty
 
 // A Cast of the last result.
 pub fn cast(nodes: &[u8], ws: &mut [u8], n: usize) -> bool
-    requires workspace_size_in_bounds { workspace_size ≤ length ws.old }
-    requires n_in_bounds { n * 20 + 20 ≤ length nodes.now }
+    requires workspace_long { workspace_size ≤ length ws.old }
+    requires node_inside { n * 20 + 20 ≤ length nodes.now }
     requires n_bound { ref_of nodes.now n < 512 }
     ensures { Gives ws.old (cast_to (result_in ws.old) (type_at (tables ws.old) (ref_of nodes.now n))) result ws.new }
 {

@@ -67,7 +67,7 @@ pub fn put_counts(buffer: &mut [u8], entered: u64, recorded: u64)
 
 pub fn put_variables(buffer: &mut [u8], ws: &[u8], stored: usize, v: usize)
     requires fit { Fit ws.now stored }
-    requires stored_in_bounds { v + length (view ws.now stored).variables * 16 ≤ length buffer.old }
+    requires bodies_fit { v + length (view ws.now stored).variables * 16 ≤ length buffer.old }
     ensures { buffer.new ≡ sets buffer.old v (variables_body (view ws.now stored).variables) }
 {
     workspace::variables::copy_variables(ws, &mut buffer[v..]);
@@ -75,7 +75,7 @@ pub fn put_variables(buffer: &mut [u8], ws: &[u8], stored: usize, v: usize)
 
 pub fn put_memory(buffer: &mut [u8], ws: &[u8], stored: usize, m: usize)
     requires fit { Fit ws.now stored }
-    requires stored_in_bounds { m + stored * 9 ≤ length buffer.old }
+    requires bodies_fit { m + stored * 9 ≤ length buffer.old }
     ensures { buffer.new ≡ sets buffer.old m (memory_body (view ws.now stored).memory) }
 {
     workspace::copy_memory(ws, stored, &mut buffer[m..]);
@@ -100,7 +100,7 @@ pub fn put_fixed(buffer: &mut [u8], stop: Stop, limit: u64, tally: Tally)
 // Variables from place v on, then Memory from place m on.
 pub fn put_state(buffer: &mut [u8], ws: &[u8], stored: usize, v: usize, m: usize)
     requires fit { Fit ws.now stored }
-    requires stored_in_bounds { (v + length (view ws.now stored).variables * 16 ≤ length buffer.old) × (m + stored * 9 ≤ length buffer.old) }
+    requires bodies_fit { (v + length (view ws.now stored).variables * 16 ≤ length buffer.old) × (m + stored * 9 ≤ length buffer.old) }
     ensures { buffer.new ≡ sets (sets buffer.old v (variables_body (view ws.now stored).variables)) m (memory_body (view ws.now stored).memory) }
 {
     put_variables(buffer, ws, stored, v);

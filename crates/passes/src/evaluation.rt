@@ -14,7 +14,7 @@ use operations::results;
 
 // The expression at node n is evaluated, in a workspace that is set up.
 fn evaluate_in(routine: &[u8], n: usize, ws: &mut [u8], regions: usize) -> Outcome
-    requires n_value { constant_refusal routine.now n ≡ 0 }
+    requires constant_accepted { constant_refusal routine.now n ≡ 0 }
     requires constant_tabled { ConstantTabled routine.now ws.old regions }
     ensures { Evaluates (constant_run routine.now n) (end_of result) }
 {
@@ -32,8 +32,8 @@ fn evaluate_in(routine: &[u8], n: usize, ws: &mut [u8], regions: usize) -> Outco
 }
 
 pub fn evaluate(routine: &[u8], n: usize, ws: &mut [u8]) -> Outcome
-    requires n_value { constant_refusal routine.now n ≡ 0 }
-    requires workspace_size_in_bounds { workspace_size ≤ length ws.old }
+    requires constant_accepted { constant_refusal routine.now n ≡ 0 }
+    requires workspace_long { workspace_size ≤ length ws.old }
     ensures { Evaluates (constant_run routine.now n) (end_of result) }
 {
     let regions = setup::set_constant(routine, ws);

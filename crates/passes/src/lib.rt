@@ -59,7 +59,7 @@ fn walk_from(
     index: Indexed,
     second: bool,
 ) -> Walked
-    requires routine_value { (routine_refusal routine.now ≡ 0) × (world_ok world.now ≡ true) }
+    requires files_accepted { (routine_refusal routine.now ≡ 0) × (world_ok world.now ≡ true) }
     requires tabled { Tabled routine.now world.now ws.old index × Fit ws.old 0 }
     ensures { WalksAll (given_of routine.now world.now (how_of limits.depth index.regions second)) (body routine.now 4) (body routine.now 5) index.facts limits.steps ws.old out.old (start_counts limits.steps) result ws.new out.new }
 {
@@ -90,8 +90,8 @@ fn walk_all(
     index: Indexed,
     second: bool,
 ) -> Walked
-    requires routine_value { (routine_refusal routine.now ≡ 0) × (world_ok world.now ≡ true) × (call_ok call.now ≡ true) }
-    requires workspace_size_in_bounds { (workspace_size ≤ length ws.old) × (length out.old < most) }
+    requires files_accepted { (routine_refusal routine.now ≡ 0) × (world_ok world.now ≡ true) × (call_ok call.now ≡ true) }
+    requires workspace_long { (workspace_size ≤ length ws.old) × (length out.old < most) }
     requires tabled { Tabled routine.now world.now ws.old index }
     ensures { WalksOf routine.now world.now call.now second out.old ws.old (stop_end (limits_of call.now).steps result.stop) ws.new out.new result.at }
 {
@@ -126,8 +126,8 @@ fn pass(
     index: Indexed,
     second: bool,
 ) -> Walked
-    requires routine_value { (routine_refusal routine.now ≡ 0) × (world_ok world.now ≡ true) × (call_ok call.now ≡ true) }
-    requires workspace_size_in_bounds { (workspace_size ≤ length ws.old) × (length out.old < most) }
+    requires files_accepted { (routine_refusal routine.now ≡ 0) × (world_ok world.now ≡ true) × (call_ok call.now ≡ true) }
+    requires workspace_long { (workspace_size ≤ length ws.old) × (length out.old < most) }
     requires tabled { Tabled routine.now world.now ws.old index }
     ensures { Passes (ran routine.now world.now call.now) second out.old ws.old (stop_end (limits_of call.now).steps result.stop) ws.new out.new result.at }
 {
@@ -156,8 +156,8 @@ pub fn first_pass(
     ws: &mut [u8],
     index: Indexed,
 ) -> Walked
-    requires call_value { refusal routine.now world.now call.now ≡ 0 }
-    requires workspace_size_in_bounds { workspace_size ≤ length ws.old }
+    requires files_accepted { refusal routine.now world.now call.now ≡ 0 }
+    requires workspace_long { workspace_size ≤ length ws.old }
     requires tabled { Tabled routine.now world.now ws.old index }
     ensures { FirstPasses (ran routine.now world.now call.now) buffer.old ws.old (stop_end (limits_of call.now).steps result.stop) buffer.new ws.new result.at }
 {
@@ -176,11 +176,11 @@ fn put_questions(
     q: usize,
     at: Counts,
 ) -> Counts
-    requires call_value { refusal routine.now world.now call.now ≡ 0 }
-    requires workspace_size_in_bounds { workspace_size ≤ length ws.old }
+    requires files_accepted { refusal routine.now world.now call.now ≡ 0 }
+    requires workspace_long { workspace_size ≤ length ws.old }
     requires tabled { Tabled routine.now world.now ws.old index }
     requires holds { Holds (ran routine.now world.now call.now) ws.old at × Keeps (ran routine.now world.now call.now) ws.old at }
-    requires steps_place_le_q { (steps_place ≤ q) × (q + at.tally.asked ≤ length buffer.old) }
+    requires after_steps { (steps_place ≤ q) × (q + at.tally.asked ≤ length buffer.old) }
     ensures { QuestionsPut (ran routine.now world.now call.now) buffer.old q buffer.new ws.new result }
 {
     let tally = at.tally;
@@ -203,8 +203,8 @@ pub fn put_rest(
     r: Walked,
     l: Lengths,
 )
-    requires call_value { refusal routine.now world.now call.now ≡ 0 }
-    requires workspace_needed_in_bounds { workspace_needed ≤ length ws.old }
+    requires files_accepted { refusal routine.now world.now call.now ≡ 0 }
+    requires workspace_long { workspace_needed ≤ length ws.old }
     requires tabled { Tabled routine.now world.now ws.old index }
     requires ended { Ended (ran routine.now world.now call.now) (limits_of call.now).steps r.stop ws.old r.at }
     requires exact { Exact (ran routine.now world.now call.now) l (length buffer.old) }

@@ -22,7 +22,7 @@ pub fn set_indexes(
 ) -> usize
     requires bound { (1 ≤ names_in names.now) × (length names.now < 65536) }
     requires symbols { (Symbols world_names.now symbols.now) × (Regions regions.now) }
-    requires workspace_size_in_bounds { workspace_size ≤ length ws.old }
+    requires workspace_long { workspace_size ≤ length ws.old }
     ensures { Indexes names.now world_names.now symbols.now regions.now ws.old ws.new result }
 {
     fill_symbols(names, world_names, symbols, &mut ws[SYMBOLS..REGIONS]);

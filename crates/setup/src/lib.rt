@@ -58,9 +58,9 @@ fn set_facts(routine: &[u8], ws: &mut [u8]) -> Facts
 
 // The tables of a routine and a world, whatever the workspace held.
 pub fn set_tables(routine: &[u8], world: &[u8], ws: &mut [u8]) -> Indexed
-    requires routine_value { routine_refusal routine.now ≡ 0 }
-    requires world_value { world_ok world.now ≡ true }
-    requires workspace_size_in_bounds { workspace_size ≤ length ws.old }
+    requires routine_accepted { routine_refusal routine.now ≡ 0 }
+    requires world_accepted { world_ok world.now ≡ true }
+    requires workspace_long { workspace_size ≤ length ws.old }
     ensures { (Tabled routine.now world.now ws.new result) × (length ws.new ≡ length ws.old) }
 {
     set_types(routine, ws);
@@ -72,9 +72,9 @@ pub fn set_tables(routine: &[u8], world: &[u8], ws: &mut [u8]) -> Indexed
 
 // Nothing written to memory, no note, and the parameters set; the tables stay.
 pub fn set_start(routine: &[u8], call: &[u8], ws: &mut [u8])
-    requires routine_value { routine_refusal routine.now ≡ 0 }
-    requires call_value { call_ok call.now ≡ true }
-    requires workspace_size_in_bounds { workspace_size ≤ length ws.old }
+    requires routine_accepted { routine_refusal routine.now ≡ 0 }
+    requires call_accepted { call_ok call.now ≡ true }
+    requires workspace_long { workspace_size ≤ length ws.old }
     requires typed { Typed (program_of routine.now).types (tables ws.old) }
     ensures { Started routine.now call.now ws.old ws.new }
 {
@@ -84,8 +84,8 @@ pub fn set_start(routine: &[u8], call: &[u8], ws: &mut [u8])
 
 // Each declared name that was never set becomes unknown, of the type of the first of that name.
 pub fn set_end(routine: &[u8], ws: &mut [u8])
-    requires routine_value { routine_refusal routine.now ≡ 0 }
-    requires workspace_size_in_bounds { workspace_size ≤ length ws.old }
+    requires routine_accepted { routine_refusal routine.now ≡ 0 }
+    requires workspace_long { workspace_size ≤ length ws.old }
     requires typed { Typed (program_of routine.now).types (tables ws.old) }
     ensures { Finished routine.now ws.old ws.new }
 {
@@ -94,8 +94,8 @@ pub fn set_end(routine: &[u8], ws: &mut [u8])
 
 // The tables of a routine alone: no world, no declared name, nothing set.
 pub fn set_constant(routine: &[u8], ws: &mut [u8]) -> usize
-    requires routine_value { routine_refusal routine.now ≡ 0 }
-    requires workspace_size_in_bounds { workspace_size ≤ length ws.old }
+    requires routine_accepted { routine_refusal routine.now ≡ 0 }
+    requires workspace_long { workspace_size ≤ length ws.old }
     ensures { (ConstantTabled routine.now ws.new result) × (length ws.new ≡ length ws.old) }
 {
     set_types(routine, ws);

@@ -243,7 +243,7 @@ pub fn statement(
     k: usize,
 ) -> Halt
     requires ready_in { ReadyIn (given nodes.now symbols.now regions.now) ws.old }
-    requires k_in_bounds { (k * 13 + 13 ≤ length statements.now) × RootsOf nodes.now statements.now }
+    requires has_statement { (k * 13 + 13 ≤ length statements.now) × RootsOf nodes.now statements.now }
     ensures { RunsStatement nodes.now symbols.now regions.now statements.now facts block k ws.old out.old result ws.new out.new }
 {
     workspace::note::clear_note(ws);

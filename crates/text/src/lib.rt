@@ -45,7 +45,7 @@ pub fn refusal_line(number: u64, out: &mut [u8]) -> usize
 // The first line: the routine's name and address, which its head has.
 pub fn header(names: &[u8], part: &[u8], head: &[u8], out: &mut [u8]) -> usize
     requires texts_indexed { (TextsIndexed names.now part.now) × ((10 ≤ length head.now) × (number_at head.now 0 2 < text_count names.now)) }
-    requires in_bounds { 8192 ≤ length out.old }
+    requires out_long { 8192 ≤ length out.old }
     ensures { (Put out.old 0 (header_text (texts_in names.now) (number_at head.now 0 2) (number_at head.now 2 8)) out.new result) × (result ≤ 8192) }
 {
     let name = layout::get16(head, 0) as usize;
@@ -63,9 +63,9 @@ pub fn header(names: &[u8], part: &[u8], head: &[u8], out: &mut [u8]) -> usize
 // The line of the step at a place of the body of steps.
 pub fn step_line(names: &[u8], part: &[u8], steps: &[u8], at: usize, out: &mut [u8]) -> Line
     requires texts_indexed { (TextsIndexed names.now part.now) × ((at ≤ length steps.now) × (StepThere (text_count names.now) (drop at steps.now))) }
-    requires in_bounds { 8192 ≤ length out.old }
+    requires out_long { 8192 ≤ length out.old }
     ensures put { (Put out.old 0 (step_text (texts_in names.now) (step_in (drop at steps.now))) out.new result.length) × (result.length ≤ 8192) }
-    ensures next_value { result.next ≡ at + step_size (drop at steps.now) }
+    ensures next_is { result.next ≡ at + step_size (drop at steps.now) }
 {
     let step = &steps[at..];
     let next = at + steps::step_size(step);
@@ -76,7 +76,7 @@ pub fn step_line(names: &[u8], part: &[u8], steps: &[u8], at: usize, out: &mut [
 // The line of a step's bytes.
 fn put_step(names: &[u8], part: &[u8], step: &[u8], out: &mut [u8]) -> usize
     requires texts_indexed { (TextsIndexed names.now part.now) × (StepThere (text_count names.now) step.now) }
-    requires in_bounds { 8192 ≤ length out.old }
+    requires out_long { 8192 ≤ length out.old }
     ensures { (Put out.old 0 (step_text (texts_in names.now) (step_in step.now)) out.new result) × (result ≤ 8192) }
 {
     let place = put_place(out, 0, step);
@@ -88,7 +88,7 @@ fn put_step(names: &[u8], part: &[u8], step: &[u8], out: &mut [u8]) -> usize
 // The line of why the run stopped.
 pub fn stop_line(names: &[u8], part: &[u8], stop: &[u8], out: &mut [u8]) -> usize
     requires texts_indexed { (TextsIndexed names.now part.now) × (StopThere (text_count names.now) stop.now) }
-    requires in_bounds { 8192 ≤ length out.old }
+    requires out_long { 8192 ≤ length out.old }
     ensures { (Put out.old 0 (stop_line (texts_in names.now) (stop_in stop.now)) out.new result) × (result ≤ 8192) }
 {
     let start = put_text(out, 0, b"; ");
@@ -99,9 +99,9 @@ pub fn stop_line(names: &[u8], part: &[u8], stop: &[u8], out: &mut [u8]) -> usiz
 // The line of the variable at a place of the body of variables.
 pub fn variable_line(names: &[u8], part: &[u8], variables: &[u8], at: usize, out: &mut [u8]) -> Line
     requires texts_indexed { (TextsIndexed names.now part.now) × ((at ≤ length variables.now) × (VariableThere (text_count names.now) (drop at variables.now))) }
-    requires in_bounds { 8192 ≤ length out.old }
+    requires out_long { 8192 ≤ length out.old }
     ensures put { (Put out.old 0 (variable_line (texts_in names.now) (number_at (drop at variables.now) 0 2, val_at (drop at variables.now) 2)) out.new result.length) × (result.length ≤ 8192) }
-    ensures next_value { result.next ≡ at + 16 }
+    ensures next_is { result.next ≡ at + 16 }
 {
     let variable = &variables[at..];
     let length = put_variable(names, part, variable, out);
@@ -114,7 +114,7 @@ pub fn variable_line(names: &[u8], part: &[u8], variables: &[u8], at: usize, out
 // The line of a variable's bytes.
 fn put_variable(names: &[u8], part: &[u8], variable: &[u8], out: &mut [u8]) -> usize
     requires texts_indexed { (TextsIndexed names.now part.now) × (VariableThere (text_count names.now) variable.now) }
-    requires in_bounds { 8192 ≤ length out.old }
+    requires out_long { 8192 ≤ length out.old }
     ensures { (Put out.old 0 (variable_line (texts_in names.now) (number_at variable.now 0 2, val_at variable.now 2)) out.new result) × (result ≤ 8192) }
 {
     let name = layout::get16(variable, 0) as usize;

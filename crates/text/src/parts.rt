@@ -27,7 +27,7 @@ pub fn put_name(
     name: usize,
 ) -> usize
     requires texts_indexed { (TextsIndexed names.now part.now) × (name < text_count names.now) }
-    requires before_in_bounds { at + length before.now + 255 ≤ length out.old }
+    requires out_long { at + length before.now + 255 ≤ length out.old }
     ensures { (Put out.old at (before.now ++ name_text (texts_in names.now) name) out.new result) × (result ≤ at + length before.now + 255) }
 {
     let start = put_text(out, at, before);
@@ -45,7 +45,7 @@ pub fn put_named(
     after: &[u8],
 ) -> usize
     requires texts_indexed { (TextsIndexed names.now part.now) × (name < text_count names.now) }
-    requires after_in_bounds { at + length before.now + 255 + length after.now ≤ length out.old }
+    requires out_long { at + length before.now + 255 + length after.now ≤ length out.old }
     ensures { (Put out.old at (before.now ++ (name_text (texts_in names.now) name ++ after.now)) out.new result) × (result ≤ at + length before.now + 255 + length after.now) }
 {
     let end = put_name(out, at, before, names, part, name);

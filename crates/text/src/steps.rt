@@ -49,7 +49,7 @@ pub fn put_place(out: &mut [u8], at: usize, step: &[u8]) -> usize
 // What it wrote.
 pub fn put_wrote(out: &mut [u8], at: usize, names: &[u8], part: &[u8], step: &[u8]) -> usize
     requires texts_indexed { (TextsIndexed names.now part.now) × (StepThere (text_count names.now) step.now) }
-    requires at_in_bounds { at + 396 ≤ length out.old }
+    requires out_long { at + 396 ≤ length out.old }
     ensures { (Put out.old at (wrote_text (texts_in names.now) (wrote_in step.now)) out.new result) × (result ≤ at + 396) }
 {
     if layout::get8(step, 17) == 0 {
@@ -70,7 +70,7 @@ fn put_names(
     count: usize,
 ) -> usize
     requires texts_indexed { (TextsIndexed names.now part.now) × (StepThere (text_count names.now) step.now) }
-    requires count_value { (count ≡ number_at step.now 61 2) × ((1 ≤ count) × (at + 4112 ≤ length out.old)) }
+    requires names_told { (count ≡ number_at step.now 61 2) × ((1 ≤ count) × (at + 4112 ≤ length out.old)) }
     ensures { (Put out.old at (commaed (texts_in names.now) (names_in step.now 63 count)) out.new result) × (result ≤ at + 4112) }
 {
     let first = layout::get16(step, 63) as usize;
@@ -87,7 +87,7 @@ fn put_names(
 // That the call was not followed, with the names that it took.
 fn put_followed(out: &mut [u8], at: usize, names: &[u8], part: &[u8], step: &[u8]) -> usize
     requires texts_indexed { (TextsIndexed names.now part.now) × (StepThere (text_count names.now) step.now) }
-    requires at_in_bounds { at + 4200 ≤ length out.old }
+    requires out_long { at + 4200 ≤ length out.old }
     ensures { (Put out.old at (note_text (texts_in names.now) (not_followed (names_in step.now 63 (number_at step.now 61 2)))) out.new result) × (result ≤ at + 4200) }
 {
     let count = layout::get16(step, 61) as usize;
@@ -125,7 +125,7 @@ fn put_stored(out: &mut [u8], at: usize, step: &[u8]) -> usize
 // Its note.
 pub fn put_note(out: &mut [u8], at: usize, names: &[u8], part: &[u8], step: &[u8]) -> usize
     requires texts_indexed { (TextsIndexed names.now part.now) × (StepThere (text_count names.now) step.now) }
-    requires at_in_bounds { at + 4200 ≤ length out.old }
+    requires out_long { at + 4200 ≤ length out.old }
     ensures { (Put out.old at (note_text (texts_in names.now) (note_in step.now)) out.new result) × (result ≤ at + 4200) }
 {
     match layout::get8(step, 34) {

@@ -53,7 +53,7 @@ fn put_depending(out: &mut [u8], at: usize, before: &[u8], node: u64) -> usize
 // The reason.
 fn put_why(out: &mut [u8], at: usize, names: &[u8], part: &[u8], stop: &[u8]) -> usize
     requires texts_indexed { (TextsIndexed names.now part.now) × (StopThere (text_count names.now) stop.now) }
-    requires at_in_bounds { at + 320 ≤ length out.old }
+    requires out_long { at + 320 ≤ length out.old }
     ensures { (Put out.old at (why_text (texts_in names.now) (why_in stop.now)) out.new result) × (result ≤ at + 320) }
 {
     let number = layout::get64(stop, 11);
@@ -97,7 +97,7 @@ fn put_returned(out: &mut [u8], at: usize, v: Val) -> usize
 
 fn put_unknown(out: &mut [u8], at: usize, names: &[u8], part: &[u8], stop: &[u8]) -> usize
     requires texts_indexed { (TextsIndexed names.now part.now) × (StopThere (text_count names.now) stop.now) }
-    requires at_in_bounds { at + 400 ≤ length out.old }
+    requires out_long { at + 400 ≤ length out.old }
     ensures { (Put out.old at (stop_text (texts_in names.now) (Unknown (address_in stop.now 2) (why_in stop.now))) out.new result) × (result ≤ at + 400) }
 {
     let end = put_stopped(out, at, stop);
@@ -130,7 +130,7 @@ fn put_halted(out: &mut [u8], at: usize, stop: &[u8]) -> usize
 // The stop.
 pub fn put_stop(out: &mut [u8], at: usize, names: &[u8], part: &[u8], stop: &[u8]) -> usize
     requires texts_indexed { (TextsIndexed names.now part.now) × (StopThere (text_count names.now) stop.now) }
-    requires at_in_bounds { at + 400 ≤ length out.old }
+    requires out_long { at + 400 ≤ length out.old }
     ensures { (Put out.old at (stop_text (texts_in names.now) (stop_in stop.now)) out.new result) × (result ≤ at + 400) }
 {
     let number = layout::get64(stop, 11);

@@ -140,7 +140,7 @@ fn left(ws: &[u8]) -> u64
 
 // A unit is spent, on a block or on a statement.
 fn pay(ws: &mut [u8], block: bool)
-    requires workspace_size_in_bounds { workspace_size ≤ length ws.old }
+    requires workspace_long { workspace_size ≤ length ws.old }
     requires balanced { (Balanced (counts_in ws.old).tally) × (0 < (counts_in ws.old).tally.left) }
     ensures { Pays block ws.old ws.new }
 {
@@ -157,7 +157,7 @@ fn pay(ws: &mut [u8], block: bool)
 
 // The place of a block, by the index in the workspace.
 fn place_of(ws: &[u8], block: usize) -> Place
-    requires workspace_size_in_bounds { workspace_size ≤ length ws.now }
+    requires workspace_long { workspace_size ≤ length ws.now }
     requires block_told { BlockTold (blocks_part (tables ws.now)) block }
     ensures { Placed (blocks_part (tables ws.now)) block result }
 {

@@ -75,7 +75,7 @@ pub fn load_number(
 // The Memory body of a record, at the front of out.
 pub fn copy_memory(ws: &[u8], stored: usize, out: &mut [u8])
     requires fit { Fit ws.now stored }
-    requires entry_size_in_bounds { stored * entry_size ≤ length out.old }
+    requires entries_fit { stored * entry_size ≤ length out.old }
     ensures { out.new ≡ memory_body (view ws.now stored).memory ++ drop (stored * entry_size) out.old }
 {
     memory::copy_out(&ws[0..FRAME], stored, out);

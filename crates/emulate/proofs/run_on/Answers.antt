@@ -6,7 +6,7 @@ pub returns-then-not-fits : goal.returns-then-not-fits
 returns-then-not-fits c = search (rules, answers_22)
 
 pub put_rest-requires : goal.put_rest-requires
-put_rest-requires c = record { call_value = search rules; workspace_needed_in_bounds = search rules; tabled = search rules; ended = search rules; exact = search (rules, is_exact) }
+put_rest-requires c = record { files_accepted = search rules; workspace_long = search rules; tabled = search rules; ended = search rules; exact = search (rules, is_exact) }
 
 pub end_of-requires : goal.end_of-requires
 end_of-requires c = search (rules, short_enough)

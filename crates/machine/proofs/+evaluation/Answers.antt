@@ -69,19 +69,19 @@ pub assign-assign_struct-requires : goal.assign-assign_struct-requires
 assign-assign_struct-requires t c = (search (rules, first_falls), (search rules, (search (rules, assign_left), (search (rules, assign_right), (search (rules, next_past, assign_left), search (rules, same_kind))))))
 
 pub assign-returns-then-kind-eq-STRUCT_INIT : goal.assign-returns-then-kind-eq-STRUCT_INIT
-assign-returns-then-kind-eq-STRUCT_INIT t c = struct_executes c.requires.n_value c.next-right.ensures c.kind-kind.ensures c.if-kind-eq-STRUCT_INIT.true c.assign_struct.ensures
+assign-returns-then-kind-eq-STRUCT_INIT t c = struct_executes c.requires.of_kind c.next-right.ensures c.kind-kind.ensures c.if-kind-eq-STRUCT_INIT.true c.assign_struct.ensures
 
 pub assign-operand-requires : goal.assign-operand-requires
 assign-operand-requires t c = search (rules, second_falls, assign_right)
 
 pub assign-returns-then-not-operand : goal.assign-returns-then-not-operand
-assign-returns-then-not-operand t c = val_fails c.requires.n_value c.next-right.ensures c.kind-kind.ensures c.if-kind-eq-STRUCT_INIT.false c.operand.ensures (ap not c.if-not-operand.true)
+assign-returns-then-not-operand t c = val_fails c.requires.of_kind c.next-right.ensures c.kind-kind.ensures c.if-kind-eq-STRUCT_INIT.false c.operand.ensures (ap not c.if-not-operand.true)
 
 pub assign-assign_val-requires : goal.assign-assign_val-requires
-assign-assign_val-requires t c = (first_falls _ _ 0 0 c.decreases c.requires.fine (omega arith), ((ready_on c.operand.ensures c.requires.ready_by.0 (ap not c.if-not-operand.false) (assign_right c.requires.n_value c.requires.fine c.next-right.ensures), c.requires.ready_by.1), assign_left c.requires.n_value c.requires.fine))
+assign-assign_val-requires t c = (first_falls _ _ 0 0 c.decreases c.requires.fine (omega arith), ((ready_on c.operand.ensures c.requires.ready_by.0 (ap not c.if-not-operand.false) (assign_right c.requires.of_kind c.requires.fine c.next-right.ensures), c.requires.ready_by.1), assign_left c.requires.of_kind c.requires.fine))
 
 pub assign-returns : goal.assign-returns
-assign-returns t c = val_executes c.requires.n_value c.next-right.ensures c.kind-kind.ensures c.if-kind-eq-STRUCT_INIT.false c.operand.ensures (ap not c.if-not-operand.false) c.assign_val.ensures
+assign-returns t c = val_executes c.requires.of_kind c.next-right.ensures c.kind-kind.ensures c.if-kind-eq-STRUCT_INIT.false c.operand.ensures (ap not c.if-not-operand.false) c.assign_val.ensures
 
 pub assign_struct-kind-kind-requires : goal.assign_struct-kind-kind-requires
 assign_struct-kind-kind-requires t c = search (rules, room)
@@ -105,7 +105,7 @@ pub assign_struct-returns-then-not-evaluate : goal.assign_struct-returns-then-no
 assign_struct-returns-then-not-evaluate t c = struct_fails c.kind-kind.ensures c.if-kind-ne-DEREF.false c.base-base.ensures c.evaluate.ensures.0 (ap not c.if-not-evaluate.true)
 
 pub assign_struct-store_struct-requires : goal.assign_struct-store_struct-requires
-assign_struct-store_struct-requires t c = (right_falls _ _ 0 0 c.decreases c.requires.fine c.requires.left_lt_right (omega arith), ((ready_on c.evaluate.ensures.0 c.requires.ready_by.0 (ap not c.if-not-evaluate.false) (base_fine c.base-base.ensures (deref_kid (same_kind c.kind-kind.ensures c.if-kind-ne-DEREF.false) c.requires.fine)), c.requires.ready_by.1), (c.requires.fine_2, c.requires.right_value)))
+assign_struct-store_struct-requires t c = (right_falls _ _ 0 0 c.decreases c.requires.fine c.requires.left_lt_right (omega arith), ((ready_on c.evaluate.ensures.0 c.requires.ready_by.0 (ap not c.if-not-evaluate.false) (base_fine c.base-base.ensures (deref_kid (same_kind c.kind-kind.ensures c.if-kind-ne-DEREF.false) c.requires.fine)), c.requires.ready_by.1), (c.requires.fine_right, c.requires.right_of_kind)))
 
 pub assign_struct-returns : goal.assign_struct-returns
 assign_struct-returns t c = struct_assigns c.kind-kind.ensures c.if-kind-ne-DEREF.false c.base-base.ensures c.evaluate.ensures.0 (ap not c.if-not-evaluate.false) c.store_struct.ensures
@@ -117,7 +117,7 @@ pub assign_val-kind-kind-requires : goal.assign_val-kind-kind-requires
 assign_val-kind-kind-requires t c = search (rules, room)
 
 pub assign_val-write-requires : goal.assign_val-write-requires
-assign_val-write-requires t c = record { fit = search rules; symbols_read = search rules; fine = search rules; n_value = search (rules, same_kind) }
+assign_val-write-requires t c = record { fit = search rules; symbols_read = search rules; fine = search rules; of_kind = search (rules, same_kind) }
 
 pub assign_val-returns-then-kind-eq-VAR : goal.assign_val-returns-then-kind-eq-VAR
 assign_val-returns-then-kind-eq-VAR t c = write_assigns c.value-v.ensures c.write.ensures
@@ -132,7 +132,7 @@ pub assign_val-overflow_add-target : goal.assign_val-overflow_add-target
 assign_val-overflow_add-target t c = search (rules, room)
 
 pub assign_val-target_of-pointer-requires : goal.assign_val-target_of-pointer-requires
-assign_val-target_of-pointer-requires t c = record { workspace_size_in_bounds = search (rules, room_in); n_in_bounds = room (deref_kid (same_kind c.kind-kind.ensures c.if-kind-ne-DEREF.false) c.requires.fine); n_bound = λ e. cast_type e (deref_kid (same_kind c.kind-kind.ensures c.if-kind-ne-DEREF.false) c.requires.fine) }
+assign_val-target_of-pointer-requires t c = record { workspace_long = search (rules, room_in); node_inside = room (deref_kid (same_kind c.kind-kind.ensures c.if-kind-ne-DEREF.false) c.requires.fine); n_bound = λ e. cast_type e (deref_kid (same_kind c.kind-kind.ensures c.if-kind-ne-DEREF.false) c.requires.fine) }
 
 pub assign_val-evaluate-requires : goal.assign_val-evaluate-requires
 assign_val-evaluate-requires t c = (target_falls _ _ 3 c.decreases c.requires.fine c.target_of-pointer.ensures (omega arith), (c.requires.ready_by, target_fine c.target_of-pointer.ensures (deref_kid (same_kind c.kind-kind.ensures c.if-kind-ne-DEREF.false) c.requires.fine)))
@@ -150,13 +150,13 @@ pub assigned-assign-requires : goal.assigned-assign-requires
 assigned-assign-requires t c = search (rules, assign_falls)
 
 pub assigned-returns-then-not-assign : goal.assigned-returns-then-not-assign
-assigned-returns-then-not-assign t c = (assigned_short c.assign.ensures c.requires.n_value (ap not c.if-not-assign.true), assigned_fails c.assign.ensures (ap not c.if-not-assign.true))
+assigned-returns-then-not-assign t c = (assigned_short c.assign.ensures c.requires.of_kind (ap not c.if-not-assign.true), assigned_fails c.assign.ensures (ap not c.if-not-assign.true))
 
 pub assigned-value_of-requires : goal.assigned-value_of-requires
 assigned-value_of-requires t c = search (rules, room_after)
 
 pub assigned-returns : goal.assigned-returns
-assigned-returns t c = (assigned_evals c.assign.ensures c.requires.n_value (ap not c.if-not-assign.false) c.value_of.ensures, assigned_tells c.assign.ensures (ap not c.if-not-assign.false) c.value_of.ensures)
+assigned-returns t c = (assigned_evals c.assign.ensures c.requires.of_kind (ap not c.if-not-assign.false) c.value_of.ensures, assigned_tells c.assign.ensures (ap not c.if-not-assign.false) c.value_of.ensures)
 
 pub binary-overflow_add-n : goal.binary-overflow_add-n
 binary-overflow_add-n t c = search (rules, room)
@@ -215,13 +215,13 @@ pub call-args-a-requires : goal.call-args-a-requires
 call-args-a-requires t c = (search (rules, second_falls), (search rules, (search (rules, call_args), search rules)))
 
 pub call-returns-then-not-a : goal.call-returns-then-not-a
-call-returns-then-not-a t c = call_short c.requires.n_value c.next-first.ensures c.next-end.ensures c.args-a.ensures (not-true _ c.if-not-a.true)
+call-returns-then-not-a t c = call_short c.requires.of_kind c.next-first.ensures c.next-end.ensures c.args-a.ensures (not-true _ c.if-not-a.true)
 
 pub call-called-requires : goal.call-called-requires
-call-called-requires t c = record { workspace_size_in_bounds = (args_ready c.args-a.ensures (not-false _ c.if-not-a.false) (call_args c.requires.n_value c.requires.fine c.next-first.ensures c.next-end.ensures) c.requires.ready_by.0).ready.fit.room; fine = c.requires.fine; n_value = c.requires.n_value; count_bound = omega (arith, c.args-a.ensures.few); vals_len = search rules }
+call-called-requires t c = record { workspace_long = (args_ready c.args-a.ensures (not-false _ c.if-not-a.false) (call_args c.requires.of_kind c.requires.fine c.next-first.ensures c.next-end.ensures) c.requires.ready_by.0).ready.fit.room; fine = c.requires.fine; of_kind = c.requires.of_kind; count_bound = omega (arith, c.args-a.ensures.few); vals_len = search rules }
 
 pub call-returns : goal.call-returns
-call-returns t c = call_evals c.requires.n_value c.next-first.ensures c.next-end.ensures c.args-a.ensures (not-false _ c.if-not-a.false) c.called.ensures
+call-returns t c = call_evals c.requires.of_kind c.next-first.ensures c.next-end.ensures c.args-a.ensures (not-false _ c.if-not-a.false) c.called.ensures
 
 pub cast-overflow_add-n : goal.cast-overflow_add-n
 cast-overflow_add-n t c = search (rules, room)
@@ -251,16 +251,16 @@ pub deref-returns-then-not-operand : goal.deref-returns-then-not-operand
 deref-returns-then-not-operand t c = search (rules, deref_short)
 
 pub deref-unknown-requires : goal.deref-unknown-requires
-deref-unknown-requires t c = (deref_ready c.requires.n_value c.requires.fine c.target_of-pointer.ensures c.operand.ensures c.requires.ready_by.0 (ap not c.if-not-operand.false)).ready.fit.room
+deref-unknown-requires t c = (deref_ready c.requires.of_kind c.requires.fine c.target_of-pointer.ensures c.operand.ensures c.requires.ready_by.0 (ap not c.if-not-operand.false)).ready.fit.room
 
 pub deref-returns-then-not-address : goal.deref-returns-then-not-address
-deref-returns-then-not-address t c = deref_nowhere c.requires.n_value c.requires.fine c.target_of-pointer.ensures c.operand.ensures (ap not c.if-not-operand.false) c.value-address.ensures c.if-not-address.true c.unknown.ensures
+deref-returns-then-not-address t c = deref_nowhere c.requires.of_kind c.requires.fine c.target_of-pointer.ensures c.operand.ensures (ap not c.if-not-operand.false) c.value-address.ensures c.if-not-address.true c.unknown.ensures
 
 pub deref-load_at-requires : goal.deref-load_at-requires
-deref-load_at-requires t c = let ready = (deref_ready c.requires.n_value c.requires.fine c.target_of-pointer.ensures c.operand.ensures c.requires.ready_by.0 (ap not c.if-not-operand.false)).ready in record { fit = ready.fit; regions_indexed = ready.regions; bits_bound = target_narrow c.requires.ready_by.0 (deref_kid c.requires.n_value c.requires.fine) c.target_of-pointer.ensures }
+deref-load_at-requires t c = let ready = (deref_ready c.requires.of_kind c.requires.fine c.target_of-pointer.ensures c.operand.ensures c.requires.ready_by.0 (ap not c.if-not-operand.false)).ready in record { fit = ready.fit; regions_indexed = ready.regions; bits_bound = target_narrow c.requires.ready_by.0 (deref_kid c.requires.of_kind c.requires.fine) c.target_of-pointer.ensures }
 
 pub deref-returns : goal.deref-returns
-deref-returns t c = deref_loads c.requires.n_value c.requires.fine c.target_of-pointer.ensures c.operand.ensures (ap not c.if-not-operand.false) c.value-address.ensures c.if-not-address.false c.load_at.ensures
+deref-returns t c = deref_loads c.requires.of_kind c.requires.fine c.target_of-pointer.ensures c.operand.ensures (ap not c.if-not-operand.false) c.value-address.ensures c.if-not-address.false c.load_at.ensures
 
 pub evaluate-kind-kind-requires : goal.evaluate-kind-kind-requires
 evaluate-kind-kind-requires t c = search (rules, room)
@@ -287,7 +287,7 @@ pub evaluate-overflow_add-n : goal.evaluate-overflow_add-n
 evaluate-overflow_add-n t c = search (rules, room)
 
 pub evaluate-address-requires : goal.evaluate-address-requires
-evaluate-address-requires t c = record { workspace_size_in_bounds = search rules; symbols_read = c.requires.ready_by.0.ready.symbols; fine = search (rules, address_kid, same_kind) }
+evaluate-address-requires t c = record { workspace_long = search rules; symbols_read = c.requires.ready_by.0.ready.symbols; fine = search (rules, address_kid, same_kind) }
 
 pub evaluate-ternary-requires : goal.evaluate-ternary-requires
 evaluate-ternary-requires t c = (search (rules, kind_falls), (search rules, (search rules, search (rules, same_kind))))
@@ -447,7 +447,7 @@ pub store_fields-returns-then-not-evaluate : goal.store_fields-returns-then-not-
 store_fields-returns-then-not-evaluate t c = fields_stopped c.loop-i.invariant.0 c.loop-i-test.true c.evaluate.ensures.0 (ap not c.if-not-evaluate.true)
 
 pub store_fields-store_field-requires : goal.store_fields-store_field-requires
-store_fields-store_field-requires t c = record { fit = (ready_on c.evaluate.ensures.0 c.loop-i.invariant.0.ready (ap not c.if-not-evaluate.false) (field_kid c.loop-i-test.true c.loop-i.invariant.0.fine)).ready.fit; n_in_bounds = field_room c.loop-i-test.true c.loop-i.invariant.0.fine; n_bound = field_type c.loop-i-test.true c.loop-i.invariant.0.fine }
+store_fields-store_field-requires t c = record { fit = (ready_on c.evaluate.ensures.0 c.loop-i.invariant.0.ready (ap not c.if-not-evaluate.false) (field_kid c.loop-i-test.true c.loop-i.invariant.0.fine)).ready.fit; node_inside = field_room c.loop-i-test.true c.loop-i.invariant.0.fine; n_bound = field_type c.loop-i-test.true c.loop-i.invariant.0.fine }
 
 pub store_fields-returns-then-not-store_field : goal.store_fields-returns-then-not-store_field
 store_fields-returns-then-not-store_field t c = field_stopped c.loop-i.invariant.0 c.loop-i-test.true c.evaluate.ensures.0 (ap not c.if-not-evaluate.false) c.store_field.result c.store_field.ensures (ap not c.if-not-store_field.true)
@@ -480,13 +480,13 @@ pub store_struct-store_fields-requires : goal.store_struct-store_fields-requires
 store_struct-store_fields-requires t c = search (rules, first_falls, struct_fields)
 
 pub store_struct-returns-then-not-store_fields : goal.store_struct-returns-then-not-store_fields
-store_struct-returns-then-not-store_fields t c = known_fails c.value-v.ensures (not-false _ c.if-not-v.false) c.requires.right_value c.next-end.ensures c.store_fields.ensures (ap not c.if-not-store_fields.true)
+store_struct-returns-then-not-store_fields t c = known_fails c.value-v.ensures (not-false _ c.if-not-v.false) c.requires.right_of_kind c.next-end.ensures c.store_fields.ensures (ap not c.if-not-store_fields.true)
 
 pub store_struct-built-requires : goal.store_struct-built-requires
-store_struct-built-requires t c = record { workspace_size_in_bounds = search (rules, room_after); fine_fields = struct_fields c.requires.right_value c.requires.fine c.next-end.ensures }
+store_struct-built-requires t c = record { workspace_long = search (rules, room_after); fine_fields = struct_fields c.requires.right_of_kind c.requires.fine c.next-end.ensures }
 
 pub store_struct-returns : goal.store_struct-returns
-store_struct-returns t c = known_stores c.value-v.ensures (not-false _ c.if-not-v.false) c.requires.right_value c.next-end.ensures c.store_fields.ensures (ap not c.if-not-store_fields.false) c.built.ensures
+store_struct-returns t c = known_stores c.value-v.ensures (not-false _ c.if-not-v.false) c.requires.right_of_kind c.next-end.ensures c.store_fields.ensures (ap not c.if-not-store_fields.false) c.built.ensures
 
 pub ternary-overflow_add-i : goal.ternary-overflow_add-i
 ternary-overflow_add-i t c = search (rules, room)

@@ -8,7 +8,7 @@ pub kind-kind-requires : goal.kind-kind-requires
 kind-kind-requires c = search (rules, room)
 
 pub execute_assign-ok-requires : goal.execute_assign-ok-requires
-execute_assign-ok-requires c = record { ready_by = search rules; fine = search rules; n_value = same_kind c.kind-kind.ensures c.if-kind-eq-ASSIGN.true }
+execute_assign-ok-requires c = record { ready_by = search rules; fine = search rules; of_kind = same_kind c.kind-kind.ensures c.if-kind-eq-ASSIGN.true }
 
 pub executed-requires : goal.executed-requires
 executed-requires c = search (rules, room_after)

@@ -18,36 +18,36 @@ pub kind-target-requires : goal.kind-target-requires
 kind-target-requires c = search (rules, room, assign_left)
 
 pub returns-then-target-ne-VAR : goal.returns-then-target-ne-VAR
-returns-then-target-ne-VAR c = c.evaluate.ensures.1 c.requires.n_value
+returns-then-target-ne-VAR c = c.evaluate.ensures.1 c.requires.of_kind
 
 pub kind-kind-requires : goal.kind-kind-requires
 kind-kind-requires c = search (rules, room, assign_right)
 
 pub returns-then-kind-eq-STRUCT_INIT : goal.returns-then-kind-eq-STRUCT_INIT
-returns-then-kind-eq-STRUCT_INIT c = c.evaluate-then-kind-eq-STRUCT_INIT.ensures.1 c.requires.n_value
+returns-then-kind-eq-STRUCT_INIT c = c.evaluate-then-kind-eq-STRUCT_INIT.ensures.1 c.requires.of_kind
 
 pub evaluate-requires-2 : goal.evaluate-requires-2
 evaluate-requires-2 c = search (rules, assign_right)
 
 pub returns-then-not-evaluate : goal.returns-then-not-evaluate
-returns-then-not-evaluate c = val_fails c.requires.n_value c.next-right.ensures c.kind-kind.ensures c.if-kind-eq-STRUCT_INIT.false c.evaluate-2.ensures.0 (ap not c.if-not-evaluate.true)
+returns-then-not-evaluate c = val_fails c.requires.of_kind c.next-right.ensures c.kind-kind.ensures c.if-kind-eq-STRUCT_INIT.false c.evaluate-2.ensures.0 (ap not c.if-not-evaluate.true)
 
 pub value-v-requires : goal.value-v-requires
-value-v-requires c = ((ready_on c.evaluate-2.ensures.0 c.requires.ready_by.0 (ap not c.if-not-evaluate.false) (assign_right c.requires.n_value c.requires.fine c.next-right.ensures)).ready.fit.room, omega arith)
+value-v-requires c = ((ready_on c.evaluate-2.ensures.0 c.requires.ready_by.0 (ap not c.if-not-evaluate.false) (assign_right c.requires.of_kind c.requires.fine c.next-right.ensures)).ready.fit.room, omega arith)
 
 pub write_declared-requires : goal.write_declared-requires
-write_declared-requires c = let r = ready_on c.evaluate-2.ensures.0 c.requires.ready_by.0 (ap not c.if-not-evaluate.false) (assign_right c.requires.n_value c.requires.fine c.next-right.ensures) in
-    record { workspace_size_in_bounds = r.ready.fit.room; fine = assign_left c.requires.n_value c.requires.fine; n_value = same_kind c.kind-target.ensures c.if-target-ne-VAR.false }
+write_declared-requires c = let r = ready_on c.evaluate-2.ensures.0 c.requires.ready_by.0 (ap not c.if-not-evaluate.false) (assign_right c.requires.of_kind c.requires.fine c.next-right.ensures) in
+    record { workspace_long = r.ready.fit.room; fine = assign_left c.requires.of_kind c.requires.fine; of_kind = same_kind c.kind-target.ensures c.if-target-ne-VAR.false }
 
 pub returns-then-write_declared : goal.returns-then-write_declared
 returns-then-write_declared c = let w = declared_written c.write_declared.ensures c.if-write_declared.true in
-    val_executes c.requires.n_value c.next-right.ensures c.kind-kind.ensures c.if-kind-eq-STRUCT_INIT.false c.evaluate-2.ensures.0 (ap not c.if-not-evaluate.false) (write_assigns c.value-v.ensures w)
+    val_executes c.requires.of_kind c.next-right.ensures c.kind-kind.ensures c.if-kind-eq-STRUCT_INIT.false c.evaluate-2.ensures.0 (ap not c.if-not-evaluate.false) (write_assigns c.value-v.ensures w)
 
 pub write_symbol-requires : goal.write_symbol-requires
-write_symbol-requires c = let r = ready_on c.evaluate-2.ensures.0 c.requires.ready_by.0 (ap not c.if-not-evaluate.false) (assign_right c.requires.n_value c.requires.fine c.next-right.ensures) in
+write_symbol-requires c = let r = ready_on c.evaluate-2.ensures.0 c.requires.ready_by.0 (ap not c.if-not-evaluate.false) (assign_right c.requires.of_kind c.requires.fine c.next-right.ensures) in
     let u = c.write_declared.ensures in
-    record { fit = undeclared_fit u c.if-write_declared.false r.ready.fit; symbols_read = undeclared_symbols u c.if-write_declared.false r.ready.symbols; fine = assign_left c.requires.n_value c.requires.fine; n_value = same_kind c.kind-target.ensures c.if-target-ne-VAR.false }
+    record { fit = undeclared_fit u c.if-write_declared.false r.ready.fit; symbols_read = undeclared_symbols u c.if-write_declared.false r.ready.symbols; fine = assign_left c.requires.of_kind c.requires.fine; of_kind = same_kind c.kind-target.ensures c.if-target-ne-VAR.false }
 
 pub returns : goal.returns
-returns c = let u = symbol_writes (assign_left c.requires.n_value c.requires.fine) (same_kind c.kind-target.ensures c.if-target-ne-VAR.false) c.write_declared.ensures c.if-write_declared.false c.write_symbol.ensures in
-    val_executes c.requires.n_value c.next-right.ensures c.kind-kind.ensures c.if-kind-eq-STRUCT_INIT.false c.evaluate-2.ensures.0 (ap not c.if-not-evaluate.false) (write_assigns c.value-v.ensures u)
+returns c = let u = symbol_writes (assign_left c.requires.of_kind c.requires.fine) (same_kind c.kind-target.ensures c.if-target-ne-VAR.false) c.write_declared.ensures c.if-write_declared.false c.write_symbol.ensures in
+    val_executes c.requires.of_kind c.next-right.ensures c.kind-kind.ensures c.if-kind-eq-STRUCT_INIT.false c.evaluate-2.ensures.0 (ap not c.if-not-evaluate.false) (write_assigns c.value-v.ensures u)

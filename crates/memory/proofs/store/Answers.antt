@@ -21,7 +21,7 @@ returns-then-span-eq1 c = let w = lent_spans c.args.part.now c.args.count c.firs
 
 pub insert-requires : goal.insert-requires
 insert-requires c = let w = lent_spans c.args.part.now c.args.count c.first_of-first.result c.first_of-first.ensures c.span_of_byte-span.result c.args.address 1 c.span_of_byte-span.ensures in
-    record { sorted = (c.requires, w); bytes_nonzero = omega (arith, c.ranges.address.fits) }
+    record { sorted = (c.requires, w); span_fits = omega (arith, c.ranges.address.fits) }
 
 pub returns : goal.returns
 returns c = let m = entries c.args.part.now c.args.count in

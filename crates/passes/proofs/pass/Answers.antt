@@ -6,7 +6,7 @@ pub returns-then-is_full : goal.returns-then-is_full
 returns-then-is_full c = search (rules, pass_full)
 
 pub set_end-requires : goal.set_end-requires
-set_end-requires c = record { routine_value = search rules; workspace_size_in_bounds = search rules; typed = search (rules, end_typed) }
+set_end-requires c = record { routine_accepted = search rules; workspace_long = search rules; typed = search (rules, end_typed) }
 
 pub returns : goal.returns
 returns c = pass_whole _ _ _ _ _ _ _ _ _ _ _ _ _ c.is_full.ensures c.if-is_full.false c.walk_all-r.ensures c.set_end.ensures

@@ -7,10 +7,10 @@ pub limits_of-limits-requires : goal.limits_of-limits-requires
 limits_of-limits-requires c = search (rules, call_ok_lem)
 
 pub put_questions-at-requires : goal.put_questions-at-requires
-put_questions-at-requires c = record { call_value = search rules; workspace_size_in_bounds = search rules; tabled = search rules; holds = search rules; steps_place_le_q = search (rules, questions_room) }
+put_questions-at-requires c = record { files_accepted = search rules; workspace_long = search rules; tabled = search rules; holds = search rules; after_steps = search (rules, questions_room) }
 
 pub put_bodies-requires : goal.put_bodies-requires
-put_bodies-requires c = laid _ _ _ _ _ _ _ _ _ c.requires.call_value c.put_questions-at.ensures c.requires.exact
+put_bodies-requires c = laid _ _ _ _ _ _ _ _ _ c.requires.files_accepted c.put_questions-at.ensures c.requires.exact
 
 pub returns : goal.returns
 returns c = completes _ _ _ _ _ c.requires.ended _ _ _ _ _ _ c.requires.exact _ c.limits_of-limits.ensures.0 c.put_questions-at.ensures c.put_bodies.ensures

@@ -12,7 +12,7 @@ use borrow.Author.Rules.{rules}
 use Rattle.text.proofs.put_variable.Goals as goal
 
 pub put_named-named-requires : goal.put_named-named-requires
-put_named-named-requires c = record { texts_indexed = (search rules, variable_named c.args.variable.now (search rules) c.get16-name.ensures.0); after_in_bounds = search rules }
+put_named-named-requires c = record { texts_indexed = (search rules, variable_named c.args.variable.now (search rules) c.get16-name.ensures.0); out_long = search rules }
 
 pub returns : goal.returns
 unfolding variable_line

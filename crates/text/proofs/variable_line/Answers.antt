@@ -13,7 +13,7 @@ use borrow.Author.Rules.{rules}
 use Rattle.text.proofs.variable_line.Goals as goal
 
 pub put_variable-length-requires : goal.put_variable-length-requires
-put_variable-length-requires c = record { texts_indexed = (search rules, subst (λ (l : List ℕ). VariableThere (text_count c.args.names.now) l) (sym (rest_of c.args.variables.now c.args.at)) (search rules)); in_bounds = search rules }
+put_variable-length-requires c = record { texts_indexed = (search rules, subst (λ (l : List ℕ). VariableThere (text_count c.args.names.now) l) (sym (rest_of c.args.variables.now c.args.at)) (search rules)); out_long = search rules }
 
 pub returns : goal.returns
-returns c = record { put = (put_as c.put_variable-length.ensures.0 (ap (λ (l : List ℕ). variable_line (texts_in c.args.names.now) (number_at l 0 2, val_at l 2)) (rest_of c.args.variables.now c.args.at)), c.put_variable-length.ensures.1); next_value = refl }
+returns c = record { put = (put_as c.put_variable-length.ensures.0 (ap (λ (l : List ℕ). variable_line (texts_in c.args.names.now) (number_at l 0 2, val_at l 2)) (rest_of c.args.variables.now c.args.at)), c.put_variable-length.ensures.1); next_is = refl }

@@ -9,10 +9,10 @@ step_line-line-requires-clause-texts_indexed g c =
 
 pub loop-at-smaller : goal.loop-at-smaller
 loop-at-smaller g c =
-    let turn = step_turn c.args.steps.now c.loop-at.at c.step_line-line.result.next c.loop-at-test.true c.loop-at.invariant.1 c.step_line-line.ensures.next_value in
+    let turn = step_turn c.args.steps.now c.loop-at.at c.step_line-line.result.next c.loop-at-test.true c.loop-at.invariant.1 c.step_line-line.ensures.next_is in
     omega (arith, turn.0, turn.1.0)
 
 pub loop-at-preserved : goal.loop-at-preserved
 loop-at-preserved g c =
-    let turn = step_turn c.args.steps.now c.loop-at.at c.step_line-line.result.next c.loop-at-test.true c.loop-at.invariant.1 c.step_line-line.ensures.next_value in
+    let turn = step_turn c.args.steps.now c.loop-at.at c.step_line-line.result.next c.loop-at-test.true c.loop-at.invariant.1 c.step_line-line.ensures.next_is in
     (turn.0, turn.1.1)

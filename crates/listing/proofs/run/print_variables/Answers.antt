@@ -8,5 +8,5 @@ variable_line-line-requires-clause-texts_indexed g c =
 
 pub loop-at-preserved : goal.loop-at-preserved
 loop-at-preserved g c =
-    let turn = variable_turn c.args.variables.now c.loop-at.at c.variable_line-line.result.next c.loop-at-test.true c.loop-at.invariant.1 c.variable_line-line.ensures.next_value in
+    let turn = variable_turn c.args.variables.now c.loop-at.at c.variable_line-line.result.next c.loop-at-test.true c.loop-at.invariant.1 c.variable_line-line.ensures.next_is in
     (turn.0, turn.1.1)

@@ -7,10 +7,10 @@ use Rattle.std.proofs.Common.{ℕ, ◌+◌, ◌-◌, ◌%◌, ◌^◌, sym, ap, 
 use Rattle.memory.proofs.row.load_each.Goals as goal
 
 pub loop-i-init : goal.loop-i-init
-loop-i-init c = (omega arith, c.requires.at_value, omega arith, omega arith, load_first (row_of c.args.row.now c.args.count) (le c.args.image.count c.args.image.number) c.args.address c.args.bytes)
+loop-i-init c = (omega arith, c.requires.at_rank, omega arith, omega arith, load_first (row_of c.args.row.now c.args.count) (le c.args.image.count c.args.image.number) c.args.address c.args.bytes)
 
 pub next_byte-n-requires : goal.next_byte-n-requires
-next_byte-n-requires c = record { row = c.requires.row.0; at_value = c.loop-i.invariant.1 }
+next_byte-n-requires c = record { row = c.requires.row.0; at_rank = c.loop-i.invariant.1 }
 
 pub returns-in-Missing : goal.returns-in-Missing
 returns-in-Missing c = let l = c.loop-i in

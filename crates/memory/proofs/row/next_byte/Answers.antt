@@ -6,7 +6,7 @@ use Rattle.memory.specs.Overlay.{to_byte, find}
 use Rattle.memory.proofs.row.next_byte.Goals as goal
 
 pub overflow_add-at : goal.overflow_add-at
-overflow_add-at c = omega (arith, c.requires.row.room, c.requires.at_value, search_most c.args.row.now c.args.count c.args.address)
+overflow_add-at c = omega (arith, c.requires.row.room, c.requires.at_rank, search_most c.args.row.now c.args.count c.args.address)
 
 pub returns-then-image-eq0 : goal.returns-then-image-eq0
 returns-then-image-eq0 c = let x = c.args in
@@ -15,9 +15,9 @@ returns-then-image-eq0 c = let x = c.args in
 pub returns-in-Byte : goal.returns-in-Byte
 returns-in-Byte c = let m = row_of c.args.row.now c.args.count in
     let s = sym c.find_at-f.ensures ∙ c.in-Byte.is in
-    next_own (to_byte (find c.args.address m)) _ _ (after_found m c.requires.row.ascending c.args.address c.args.at _ c.ranges.address.fits c.requires.at_value _ s c.after.ensures) _ _ s
+    next_own (to_byte (find c.args.address m)) _ _ (after_found m c.requires.row.ascending c.args.address c.args.at _ c.ranges.address.fits c.requires.at_rank _ s c.after.ensures) _ _ s
 
 pub returns-else-image-eq0 : goal.returns-else-image-eq0
 returns-else-image-eq0 c = let m = row_of c.args.row.now c.args.count in
     let s = sym c.find_at-f.ensures ∙ c.in-Nothing.is in
-    next_image (to_byte (find c.args.address m)) _ _ (after_none m c.requires.row.ascending c.args.address c.args.at _ c.ranges.address.fits c.requires.at_value s c.after-in-Nothing.ensures) c.args.image.count c.args.image.number s c.if-image-eq0.false
+    next_image (to_byte (find c.args.address m)) _ _ (after_none m c.requires.row.ascending c.args.address c.args.at _ c.ranges.address.fits c.requires.at_rank s c.after-in-Nothing.ensures) c.args.image.count c.args.image.number s c.if-image-eq0.false

@@ -10,7 +10,7 @@ past-end-requires c = record { row = c.requires.row; from_bound = omega (arith, 
 
 pub returns : goal.returns
 returns c = let m = row_of c.args.row.now c.args.count in
-    let a : suc (c.args.address + (c.args.bytes - 1)) ≡ c.args.address + c.args.bytes = omega (arith, c.requires.bytes_nonzero) in
+    let a : suc (c.args.address + (c.args.bytes - 1)) ≡ c.args.address + c.args.bytes = omega (arith, c.requires.span_fits) in
     record {
       at = c.lower-at.ensures;
       end = c.past-end.ensures ∙ ap (λ (b : ℕ). rank b m) a;

@@ -7,7 +7,7 @@ pub returns-then-kind-ne-VAR : goal.returns-then-kind-ne-VAR
 returns-then-kind-ne-VAR c = search (rules, other_address)
 
 pub ask_address-a-requires : goal.ask_address-a-requires
-ask_address-a-requires c = record { workspace_size_in_bounds = c.requires.workspace_size_in_bounds; symbols_read = c.requires.symbols_read; fine = c.requires.fine; n_value = same_kind c.kind.ensures c.if-kind-ne-VAR.false }
+ask_address-a-requires c = record { workspace_long = c.requires.workspace_long; symbols_read = c.requires.symbols_read; fine = c.requires.fine; of_kind = same_kind c.kind.ensures c.if-kind-ne-VAR.false }
 
 pub returns-then-a : goal.returns-then-a
 returns-then-a c = search (rules, known_address)

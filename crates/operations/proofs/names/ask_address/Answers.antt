@@ -3,7 +3,7 @@ use Rattle.operations.proofs.Naming.{symbol_inside, address_asks}
 use Rattle.operations.proofs.names.ask_address.Goals as goal
 
 pub address_of-requires : goal.address_of-requires
-address_of-requires c = symbol_inside c.requires.fine c.requires.n_value c.reference-name.ensures.0 _ c.requires.symbols_read
+address_of-requires c = symbol_inside c.requires.fine c.requires.of_kind c.reference-name.ensures.0 _ c.requires.symbols_read
 
 pub returns : goal.returns
-returns c = address_asks _ _ _ _ _ _ _ _ _ _ _ c.requires.fine c.requires.n_value c.reference-name.ensures.0 (symbols_lent _) c.answered-answer.ensures c.address_of.ensures c.tell.ensures
+returns c = address_asks _ _ _ _ _ _ _ _ _ _ _ c.requires.fine c.requires.of_kind c.reference-name.ensures.0 (symbols_lent _) c.answered-answer.ensures c.address_of.ensures c.tell.ensures

@@ -6,10 +6,10 @@ pub undefined-requires : goal.undefined-requires
 undefined-requires c = search (rules, name_below, asked_room)
 
 pub returns-then-not-a : goal.returns-then-not-a
-returns-then-not-a c = symbol_none c.ask_address-a.ensures c.requires.fine c.requires.n_value c.reference.ensures.0 c.if-not-a.true c.undefined.ensures
+returns-then-not-a c = symbol_none c.ask_address-a.ensures c.requires.fine c.requires.of_kind c.reference.ensures.0 c.if-not-a.true c.undefined.ensures
 
 pub ask_size-s-requires : goal.ask_size-s-requires
-ask_size-s-requires c = record { workspace_size_in_bounds = asked_room c.ask_address-a.ensures c.requires.ready_in.ready.fit.room; symbols_read = asked_symbols c.ask_address-a.ensures c.requires.ready_in.ready.symbols; fine = c.requires.fine; n_value = c.requires.n_value }
+ask_size-s-requires c = record { workspace_long = asked_room c.ask_address-a.ensures c.requires.ready_in.ready.fit.room; symbols_read = asked_symbols c.ask_address-a.ensures c.requires.ready_in.ready.symbols; fine = c.requires.fine; of_kind = c.requires.of_kind }
 
 pub unknown-requires : goal.unknown-requires
 unknown-requires c = sized_room c.ask_address-a.ensures c.ask_size-s.ensures c.requires.ready_in.ready.fit.room

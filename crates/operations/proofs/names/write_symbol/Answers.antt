@@ -10,7 +10,7 @@ pub returns-then-not-a : goal.returns-then-not-a
 returns-then-not-a c = search (rules, symbol_sets)
 
 pub ask_size-s-requires : goal.ask_size-s-requires
-ask_size-s-requires c = record { workspace_size_in_bounds = asked_room c.ask_address-a.ensures c.requires.fit.room; symbols_read = asked_symbols c.ask_address-a.ensures c.requires.symbols_read; fine = c.requires.fine; n_value = c.requires.n_value }
+ask_size-s-requires c = record { workspace_long = asked_room c.ask_address-a.ensures c.requires.fit.room; symbols_read = asked_symbols c.ask_address-a.ensures c.requires.symbols_read; fine = c.requires.fine; of_kind = c.requires.of_kind }
 
 pub returns-then-bits-eq0 : goal.returns-then-bits-eq0
 returns-then-bits-eq0 c = search (rules, symbol_fails)

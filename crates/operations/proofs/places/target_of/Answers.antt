@@ -3,7 +3,7 @@ use Rattle.operations.proofs.Targeting.{targets_other, targets_under, targets_ca
 use Rattle.operations.proofs.places.target_of.Goals as goal
 
 pub pointee-p-requires : goal.pointee-p-requires
-pointee-p-requires c = (c.requires.workspace_size_in_bounds, omega (arith, c.requires.n_bound (sym c.kind-kind.ensures ∙ c.if-kind-eq-CAST.true)))
+pointee-p-requires c = (c.requires.workspace_long, omega (arith, c.requires.n_bound (sym c.kind-kind.ensures ∙ c.if-kind-eq-CAST.true)))
 
 pub returns-in-Of : goal.returns-in-Of
 returns-in-Of c = search (rules, targets_under)

@@ -12,4 +12,4 @@ pub conclude-requires : goal.conclude-requires
 conclude-requires c = kept_acts none (option_of c.statement_at-s.result.address) c.act-o.result (λ r. r.ready.ready.fit) c.act-o.ensures.remains
 
 pub returns : goal.returns
-returns c = statement_runs c.requires.k_in_bounds.1 c.requires.k_in_bounds.0 c.clear_note.ensures c.statement_at-s.ensures c.act-o.ensures c.conclude.ensures
+returns c = statement_runs c.requires.has_statement.1 c.requires.has_statement.0 c.clear_note.ensures c.statement_at-s.ensures c.act-o.ensures c.conclude.ensures

@@ -8,13 +8,13 @@ use borrow.Author.Rules.{rules}
 use Rattle.text.proofs.steps.put_names.Goals as goal
 
 pub put_name-end-requires : goal.put_name-end-requires
-put_name-end-requires c = record { texts_indexed = (search rules, taken_named c.args.step.now c.args.count 0 (search rules) (search rules) (search rules) c.get16-first.ensures.0); before_in_bounds = search rules }
+put_name-end-requires c = record { texts_indexed = (search rules, taken_named c.args.step.now c.args.count 0 (search rules) (search rules) (search rules) c.get16-first.ensures.0); out_long = search rules }
 
 pub loop-k-init : goal.loop-k-init
 loop-k-init c = ((search rules, search rules), (search rules, left_all))
 
 pub put_name-end-requires-in-loop-k : goal.put_name-end-requires-in-loop-k
-put_name-end-requires-in-loop-k c = record { texts_indexed = (search rules, taken_named c.args.step.now c.args.count c.loop-k.k (search rules) (search rules) (search rules) c.get16-name.ensures.0); before_in_bounds = search rules }
+put_name-end-requires-in-loop-k c = record { texts_indexed = (search rules, taken_named c.args.step.now c.args.count c.loop-k.k (search rules) (search rules) (search rules) c.get16-name.ensures.0); out_long = search rules }
 
 pub loop-k-preserved : goal.loop-k-preserved
 loop-k-preserved c = ((search rules, search rules), (search rules, names_next (texts_in c.args.names.now) c.args.step.now c.args.count _ _ c.loop-k.k (search rules) c.get16-name.ensures.0 c.loop-k.invariant.1.1 c.put_name-end-in-loop-k.ensures.0))

@@ -11,7 +11,7 @@ pub returns-then-get8-eq0 : goal.returns-then-get8-eq0
 returns-then-get8-eq0 c = (put_of (wrote_text (texts_in c.args.names.now)) (wrote_none c.args.step.now c.get8.ensures.0 c.if-get8-eq0.true) put_none, search rules)
 
 pub put_named-end-requires : goal.put_named-end-requires
-put_named-end-requires c = record { texts_indexed = (search rules, wrote_named c.args.step.now c.get8.ensures.0 (search rules) c.if-get8-eq0.false c.get16-name.ensures.0); after_in_bounds = search rules }
+put_named-end-requires c = record { texts_indexed = (search rules, wrote_named c.args.step.now c.get8.ensures.0 (search rules) c.if-get8-eq0.false c.get16-name.ensures.0); out_long = search rules }
 
 pub returns : goal.returns
 returns c = (

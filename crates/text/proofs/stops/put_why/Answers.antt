@@ -7,7 +7,7 @@ use borrow.Author.Rules.{rules}
 use Rattle.text.proofs.stops.put_why.Goals as goal
 
 pub put_named-requires : goal.put_named-requires
-put_named-requires c = record { texts_indexed = (search rules, why_named c.args.stop.now c.get8.ensures.0 (search rules) c.in-7.is c.get16-name.ensures.0); after_in_bounds = search rules }
+put_named-requires c = record { texts_indexed = (search rules, why_named c.args.stop.now c.get8.ensures.0 (search rules) c.in-7.is c.get16-name.ensures.0); out_long = search rules }
 
 pub returns-in-1 : goal.returns-in-1
 returns-in-1 c = (put_of (why_text (texts_in c.args.names.now)) (why_branch c.args.stop.now c.get8.ensures.0 c.in-1.is c.get32-node.ensures.0) c.put_depending.ensures.0, search rules)
