@@ -76,7 +76,8 @@ fn run_accepted(
     let index = setup::set_tables(routine, world, ws);
     let r = passes::first_pass(routine, world, call, buffer, ws, index);
     let stop = r.stop;
-    if passes::is_full(stop) {
+    let full = passes::is_full(stop);
+    if full {
         return clear_both(buffer, ws, 21);
     }
     run_on(routine, world, call, buffer, ws, index, r)

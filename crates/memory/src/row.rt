@@ -91,7 +91,8 @@ fn next_byte(row: &[u8], count: usize, image: Image, address: u64, at: usize) ->
     match f {
         Found::Byte(b) => Next::Read(b, after(address, at + 1)),
         Found::Nothing => {
-            if image.count == 0 {
+            let none = image.count == 0;
+            if none {
                 return Next::Missing;
             }
             Next::Read((image.number % 256) as u8, after(address, at))

@@ -36,7 +36,8 @@ fn follow(nodes: &[u8], ws: &mut [u8], out: &mut [u8], vals: &[u8], count: usize
     if nodes::kind(nodes, n) != nodes::FUNCTION_NAME {
         return;
     }
-    if registers::word(ws, DEPTH) == 0 {
+    let deepest = registers::word(ws, DEPTH) == 0;
+    if deepest {
         return;
     }
     let name = nodes::reference(nodes, n);

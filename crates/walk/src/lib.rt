@@ -218,7 +218,8 @@ fn rounds(
 {
     let mut spot = entry();
     while spot.block < facts.blocks {
-        if left(ws) == 0 {
+        let spent = left(ws) == 0;
+        if spent {
             return Stop::Steps;
         }
         let next = turn(

@@ -6,12 +6,12 @@ use Rattle.walk.proofs.rounds.Goals as goal
 pub loop-spot-init : goal.loop-spot-init
 loop-spot-init c = search (rules, begins)
 
-pub returns-then-left-eq0 : goal.returns-then-left-eq0
-returns-then-left-eq0 c = stops_spent c.loop-spot.invariant.1.1 c.loop-spot-test.true (omega (arith, c.if-left-eq0.true, c.left.ensures))
+pub returns-then-spent : goal.returns-then-spent
+returns-then-spent c = stops_spent c.loop-spot.invariant.1.1 c.loop-spot-test.true (omega (arith, c.if-spent.true, c.left-spent.ensures))
 
 pub turn-next-requires : goal.turn-next-requires
 turn-next-requires c = let left = c.loop-spot.invariant.1.1 in
-    record { ready_in = left.ready; rooted = left.rooted; placed_at = (left.placed, c.loop-spot-test.true); balanced = (left.balanced, omega (arith, c.if-left-eq0.false, c.left.ensures)) }
+    record { ready_in = left.ready; rooted = left.rooted; placed_at = (left.placed, c.loop-spot-test.true); balanced = (left.balanced, omega (arith, c.if-spent.false, c.left-spent.ensures)) }
 
 pub returns-in-Stops : goal.returns-in-Stops
 returns-in-Stops c = search (rules, stops_with)
