@@ -1,10 +1,10 @@
 -- The definition, open to computing: what the examples are checked through. A line for each crate names what it marks `unfoldable`. Assumes nothing.
 use mathlib.Core.List.{List}
-use mathlib.Core.Option.{Option}
+use Rattle.std.specs.Prelude.{Option}
 use Prim.Native.Nat.{ℕ}
 use Rattle.value.specs.declared.Val.{Val}
 use Rattle.layout.specs.Number.{number_at}
-use Rattle.value.specs.Operators.{operands_of, arithmetic, division, bitwise, truth, order, test, shift, binary_of}
+use Rattle.value.specs.Operators.{operands_of, arithmetic, division, bitwise, truth, order, compared, shift, binary_of}
 use Rattle.spelling.specs.Spelling.{is, dropped, signed_word, unsigned_word, alone, two, type_of}
 use Rattle.files.specs.Blocks.{statement_ok, statements_ok, block_ok, block_at, blocks_in}
 use Rattle.files.specs.Call.{call_body_ok, limits_of}
@@ -39,7 +39,7 @@ unfolding number_at
 layout_open = tt
 
 unfoldable pub value_open : Unit {0}
-unfolding operands_of arithmetic division bitwise truth order test shift binary_of is dropped signed_word unsigned_word alone two type_of
+unfolding operands_of arithmetic division bitwise truth order compared shift binary_of is dropped signed_word unsigned_word alone two type_of
 value_open = tt
 
 unfoldable pub files_open : Unit {0}

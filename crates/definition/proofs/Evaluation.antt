@@ -2,13 +2,13 @@
 -- only the walk does. Assumes nothing.
 use mathlib.Core.Bool.{Bool, true, false, ◌||◌}
 use mathlib.Core.List.{List, [], ◌∷◌}
-use mathlib.Core.Option.{Option, none, some}
+use Rattle.std.specs.Prelude.{Option, None, Some, Result, Ok, Err}
 use Prim.Native.Nat.{ℕ, zero, suc}
 use lib.ListN.{drop}
 use Rattle.value.specs.declared.Ty.{Ty}
 use Rattle.value.specs.declared.Val.{Val}
-use Rattle.value.specs.declared.Answer.{Answer as Result}
-use Rattle.value.specs.declared.Answer.TheVariants.{Value, DivisionByZero}
+use Rattle.value.specs.declared.ArithmeticError.{ArithmeticError}
+use Rattle.value.specs.declared.ArithmeticError.TheVariants.{DivisionByZero}
 use Rattle.value.specs.Operators.{operator_of, binary_of}
 use Rattle.memory.specs.Overlay.{byte_or}
 use Rattle.files.specs.Program.{Kind, Constant, Var, Register, StringLiteral, FunctionName, ConditionTrue, ConditionFalse, ConstantCondition, Cast, Deref, AddressOf, Ternary, Binary, Assign, Call, Intrinsic, Return, StructInit, Field, Plain, Node, Tree, tree, Trees, nil, cons}
@@ -50,7 +50,7 @@ module _ {A : Type 0} where
   pub q_if : (b : Bool) {t u : Act A} → Quiet t → Quiet u → Quiet {A = A} (elim b [ true ↦ t | false ↦ u ])
   q_if b p q = every_if Inner b p q
 
-  pub q_option : {X : Type 0} (o : Option X) {n : Act A} {s : X → Act A} → Quiet n → ((x : X) → Quiet (s x)) → Quiet {A = A} (elim o [ none ↦ n | some x ↦ s x ])
+  pub q_option : {X : Type 0} (o : Option X) {n : Act A} {s : X → Act A} → Quiet n → ((x : X) → Quiet (s x)) → Quiet {A = A} (elim o [ None ↦ n | Some x ↦ s x ])
   q_option o p q = every_option Inner o p q
 
 pub q_bind : {A B : Type 0} {t : Act A} {f : A → Act B} → Quiet t → ((a : A) → Quiet (f a)) → Quiet (t >>= f)
@@ -108,9 +108,9 @@ unfolding evals
 q_evals quiet_none = q_done
 q_evals (quiet_more t ts) = q_bind (q_eval t) (λ v. q_bind (q_evals ts) (λ vs. q_done))
 
-q_answered : (a : Result) → Quiet (answered a)
-q_answered (Value v) = q_done
-q_answered DivisionByZero = q_fail
+q_answered : (a : Result Val ArithmeticError) → Quiet (answered a)
+q_answered (Ok v) = q_done
+q_answered (Err DivisionByZero) = q_fail
 
 module _ (E : Env) (follows : (name address : ℕ) (vs : List Val) → Quiet (E.follow name address vs)) where
   q_read : (x : ℕ) → Quiet (read_variable E x)
@@ -163,9 +163,9 @@ module _ (E : Env) (follows : (name address : ℕ) (vs : List Val) → Quiet (E.
   unfolding call followed
   q_call f ts = q_bind (q_evals ts) (λ vs. q_bind (q_if (is FunctionName f) (follows _ _ vs) q_done) (λ r. q_option' r (q_bind (q_take ts) (λ xs. q_act tt (λ _. q_done))) (λ v. q_done)))
     where
-      q_option' : (o : Option Val) {n : Act Val} {s : Val → Act Val} → Quiet n → ((x : Val) → Quiet (s x)) → Quiet {A = Val} (elim o [ some x ↦ s x | none ↦ n ])
-      q_option' none p q = p
-      q_option' (some x) p q = q x
+      q_option' : (o : Option Val) {n : Act Val} {s : Val → Act Val} → Quiet n → ((x : Val) → Quiet (s x)) → Quiet {A = Val} (elim o [ Some x ↦ s x | None ↦ n ])
+      q_option' None p q = p
+      q_option' (Some x) p q = q x
 
   q_address : (t : Term) → Quiet (address_val E t)
   unfolding address_val

@@ -1,6 +1,6 @@
 -- What holds of every way through a tree: of its operations, of the reasons for which it ends short, and of what it gives. Assumes nothing.
 use mathlib.Core.Bool.{Bool, true, false}
-use mathlib.Core.Option.{Option, none, some}
+use Rattle.std.specs.Prelude.{Option, None, Some}
 use Rattle.definition.specs.Question.{Asked, Question, Answer, World, cut}
 use Rattle.definition.specs.Act.{Why, Op, Reply, Act, done, fail, ask, act, End, gave, stopped, try, ◌>>=◌}
 use Rattle.definition.specs.State.{State, reply, next, run}
@@ -9,8 +9,8 @@ use Rattle.definition.specs.State.{State, reply, next, run}
 abbrev pub Any : {A : Type 0} → A → Type 0
 Any a = Unit
 
-abbrev pub None : {A : Type 0} → A → Type 0
-None a = ⊥
+abbrev pub Never : {A : Type 0} → A → Type 0
+Never a = ⊥
 
 -- of a reason for which it ended short, or of what it gave
 abbrev pub EndIs : {A : Type 0} → (Why → Type 0) → (A → Type 0) → End A → Type 0
@@ -68,9 +68,9 @@ module _ (M : Op → Type 0) where
       every_if false p q = q
 
       pub every_option : {X : Type 0} (o : Option X) {n : Act A} {s : X → Act A} → Every F Q n → ((x : X) → Every F Q (s x))
-          → Every F Q (elim o [ none ↦ n | some x ↦ s x ])
-      every_option none p q = p
-      every_option (some x) p q = q x
+          → Every F Q (elim o [ None ↦ n | Some x ↦ s x ])
+      every_option None p q = p
+      every_option (Some x) p q = q x
 
       pub every_try : {G : Why → Type 0} {t : Act A} → Every F Q t → Every G (EndIs F Q) (try t)
       every_try {G} {t = t} p = record { all = all_try F G Q t p.all }

@@ -5,7 +5,7 @@ use Prim.Native.Nat.{ℕ}
 use Rattle.definition.proofs.Hex.{hex, lines, no_world}
 use Rattle.definition.proofs.Compute.{record_computed, listing_computed, number_computed, constant_computed}
 use mathlib.Core.Bool.{true}
-use mathlib.Core.Option.{none, some}
+use Rattle.std.specs.Prelude.{None, Some}
 use Rattle.value.specs.Value.{type, known_val}
 
 -- document 01, "The listing": `sum = dwell + 200`, then `return sum - 50`, with dwell = 100
@@ -58,6 +58,6 @@ unfolding number_computed
 trim_numbers = refl
 
 -- `constant_value` of the nodes of `trim`: the Assign stores what depends on a variable, node 4 is the one-byte constant 200, node 6 reads a variable
-trim_constants : map (constant_computed trim_routine) (0 ∷ 4 ∷ 6 ∷ []) ≡ none ∷ some (known_val 200 (type 8 true)) ∷ none ∷ []
+trim_constants : map (constant_computed trim_routine) (0 ∷ 4 ∷ 6 ∷ []) ≡ None ∷ Some (known_val 200 (type 8 true)) ∷ None ∷ []
 unfolding constant_computed
 trim_constants = refl

@@ -3,7 +3,7 @@
 use mathlib.Core.Path.{◌≡◌, refl, ap}
 use mathlib.Core.Bool.{Bool, true, false}
 use mathlib.Core.List.{List, [], ◌∷◌, map}
-use mathlib.Core.Option.{Option, none, some}
+use Rattle.std.specs.Prelude.{Option, None, Some}
 use Prim.Native.Nat.{ℕ, zero, suc, ◌<◌}
 use native.Mathlib.Nat.{mod-lt}
 use native.Mathlib.Omega.{arith}
@@ -20,8 +20,8 @@ use Rattle.layout.proofs.FormatLaws.{Sound, Below, number_sound, then_sound, pai
 -- ---- what the fields of a question and of an answer hold
 
 abbrev pub OptionFits : Option ℕ → Type 0
-OptionFits none = Unit
-OptionFits (some n) = Below 8 n
+OptionFits None = Unit
+OptionFits (Some n) = Below 8 n
 
 abbrev pub ValFits : Val → Type 0
 ValFits v = Below 4 v.bits × Below 8 v.number
@@ -49,8 +49,8 @@ abbrev pub WrittenFits : Written → Type 0
 WrittenFits e = Unit {0} × (QuestionFits e.0 e.1.0 × FieldsFit e.0 e.1.1)
 
 flag_and_number_fits : (o : Option ℕ) → OptionFits o → Below 1 (flag_and_number o).0 × Below 8 (flag_and_number o).1
-flag_and_number_fits none h = (lit< tt, lit< tt)
-flag_and_number_fits (some n) h = (lit< tt, h)
+flag_and_number_fits None h = (lit< tt, lit< tt)
+flag_and_number_fits (Some n) h = (lit< tt, h)
 
 pub fields_fit : (κ : Asked) (a : Answer κ) → AnswerFits κ a → FieldsFit κ (fields_of κ a)
 fields_fit address_of a h = flag_and_number_fits a h
@@ -120,10 +120,10 @@ entry_some e = omega arith
 -- ---- an answer is known by its fields
 
 flag_and_number_tells : (a b : Option ℕ) → flag_and_number a ≡ flag_and_number b → a ≡ b
-flag_and_number_tells none none e = refl
-flag_and_number_tells none (some n) e = absurd (omega (arith, ap (λ (f : ℕ × ℕ). f.0) e))
-flag_and_number_tells (some n) none e = absurd (omega (arith, ap (λ (f : ℕ × ℕ). f.0) e))
-flag_and_number_tells (some n) (some m) e = ap (λ (f : ℕ × ℕ). some f.1) e
+flag_and_number_tells None None e = refl
+flag_and_number_tells None (Some n) e = absurd (omega (arith, ap (λ (f : ℕ × ℕ). f.0) e))
+flag_and_number_tells (Some n) None e = absurd (omega (arith, ap (λ (f : ℕ × ℕ). f.0) e))
+flag_and_number_tells (Some n) (Some m) e = ap (λ (f : ℕ × ℕ). Some f.1) e
 
 pub fields_tell : (κ : Asked) (a b : Answer κ) → fields_of κ a ≡ fields_of κ b → a ≡ b
 fields_tell address_of a b e = flag_and_number_tells a b e

@@ -3,7 +3,7 @@
 use mathlib.Core.Path.{◌≡◌, refl, sym, ap, ◌∙◌}
 use mathlib.Core.Bool.{Bool, true, false}
 use mathlib.Core.List.{List, ◌++◌}
-use mathlib.Core.Option.{Option, none, some}
+use Rattle.std.specs.Prelude.{Option, None, Some}
 use Prim.Native.Nat.{ℕ, zero, suc, ◌≤◌}
 use native.Mathlib.Omega.{arith}
 use Rattle.definition.specs.Question.{World, Entry}
@@ -49,11 +49,11 @@ module _ (P : Program) (E : Env) where
   paying m p u paid = elim paid [ false ↦ done (goes p) | true ↦ u >>= further m ]
 
   abbrev pub turn : ℕ → Place → Option (Bool × Act Next) → Act Next
-  turn m p o = elim o [ none ↦ done (stops (NoBlock (block_of p))) | some u ↦ spend u.0 (λ paid. paying m p u.1 paid) ]
+  turn m p o = elim o [ None ↦ done (stops (NoBlock (block_of p))) | Some u ↦ spend u.0 (λ paid. paying m p u.1 paid) ]
 
   -- with nothing left of the number
   abbrev pub last_turn : Place → Option (Bool × Act Next) → Act Next
-  last_turn p o = elim o [ none ↦ done (stops (NoBlock (block_of p))) | some u ↦ done (goes p) ]
+  last_turn p o = elim o [ None ↦ done (stops (NoBlock (block_of p))) | Some u ↦ done (goes p) ]
 
 module _ (P : Program) (E : Env) (w : World) where
   pub fuel : (m : ℕ) (p : Place) (s : State) → AtMost m s.budget → run w (walk P E (suc m) p) s ≡ run w (walk P E m p) s
@@ -66,8 +66,8 @@ module _ (P : Program) (E : Env) (w : World) where
 
       go : (o : Option (Bool × Act Next))
           → run w (turn P E zero p o) s ≡ run w (last_turn P E p o) s
-      go none = refl
-      go (some u) = broke u.1 u.0 s.budget.left refl
+      go None = refl
+      go (Some u) = broke u.1 u.0 s.budget.left refl
   fuel (suc m) p s h = go (unit P E p) (λ q s' h'. fuel m q s' h')
     where
       Less : Type 0
@@ -92,5 +92,5 @@ module _ (P : Program) (E : Env) (w : World) where
       pays u b (suc n) e ih = bound u (asked (suc n) b s) (record { left = omega (arith, paid_left n b s.budget, e, h.left) }) ih
 
       go : (o : Option (Bool × Act Next)) → Less → run w (turn P E (suc m) p o) s ≡ run w (turn P E m p o) s
-      go none ih = refl
-      go (some u) ih = pays u.1 u.0 s.budget.left refl ih
+      go None ih = refl
+      go (Some u) ih = pays u.1 u.0 s.budget.left refl ih

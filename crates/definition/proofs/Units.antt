@@ -3,10 +3,10 @@
 use mathlib.Core.Path.{◌≡◌, refl, ◌∙◌}
 use mathlib.Core.Bool.{Bool, true, false}
 use mathlib.Core.List.{List, [], ◌∷◌}
-use mathlib.Core.Option.{Option, none, some}
+use Rattle.std.specs.Prelude.{Option, None, Some, slice_get}
 use Prim.Native.Nat.{ℕ, suc, ◌+◌}
 use native.Mathlib.Omega.{arith}
-use lib.ListN.{length, length-append, get_elem?}
+use lib.ListN.{length, length-append}
 use lib.Dec.{ltb}
 use Rattle.value.specs.declared.Val.{Val}
 use Rattle.layout.specs.Text.{text}
@@ -19,7 +19,7 @@ use Rattle.definition.specs.Evaluate.{Env, number_in, look}
 use Rattle.definition.specs.Statements.{Stop, Returned, Steps, Unknown, NoBlock, NoBlocks, NoReturn, Halted, Outcome, note_of, outcome_of, returning, is_named, is_halted, outcome, run_statement}
 use Rattle.definition.specs.Walk.{Place, before, within, Next, stops, goes, extended, left_to, address_or, taking, choosing, terminate, settle, onward, unit}
 use Rattle.definition.proofs.Follow.{go_on, run_bind}
-use Rattle.definition.proofs.Every.{Any, None, EndIs, Every, every_bind, every_done, every_act, every_if, every_try, every_end, every_keeps, every_more}
+use Rattle.definition.proofs.Every.{Any, Never, EndIs, Every, every_bind, every_done, every_act, every_if, every_try, every_end, every_keeps, every_more}
 use Rattle.definition.proofs.Evaluation.{Inner, Quiet, q_done, q_fail, q_if, q_option, q_bind, QuietTerm, QuietTerms, quiet_none, quiet_more, q_eval, q_kids, q_look, q_execute}
 
 -- ---- stops that are a unit's own
@@ -34,8 +34,8 @@ Own (NoReturn at) = Unit
 Own (Halted at target) = Unit
 
 abbrev pub OwnStop : Option Stop → Type 0
-OwnStop none = Unit
-OwnStop (some s) = Own s
+OwnStop None = Unit
+OwnStop (Some s) = Own s
 
 abbrev pub OwnNext : Next → Type 0
 OwnNext (stops s) = Own s
@@ -93,12 +93,12 @@ steps_of true = 0
 steps_of false = 1
 
 pub record UnitOf (u : Bool × Act Next) : Type 0 where
-  pub own : Every Unpaid None OwnNext u.1
+  pub own : Every Unpaid Never OwnNext u.1
   pub records : (w : World) (σ : State) → Records (steps_of u.0) σ (run w u.1 σ).after
 
 abbrev pub UnitIs : Option (Bool × Act Next) → Type 0
-UnitIs none = Unit
-UnitIs (some u) = UnitOf u
+UnitIs None = Unit
+UnitIs (Some u) = UnitOf u
 
 module _ (E : Env) (quiet : (name address : ℕ) (vs : List Val) → Quiet (E.follow name address vs)) where
   -- ---- terminators
@@ -115,7 +115,7 @@ module _ (E : Env) (quiet : (name address : ℕ) (vs : List Val) → Quiet (E.fo
   own_left at (gave b) = tt
   own_left at (stopped x) = tt
 
-  terminate_own : (ss : List Statement) (t : Terminator) → Every Inner None OwnNext (terminate E ss t)
+  terminate_own : (ss : List Statement) (t : Terminator) → Every Inner Never OwnNext (terminate E ss t)
   unfolding terminate
   terminate_own ss returns = every_done Inner tt
   terminate_own ss (goto b) = every_done Inner tt
@@ -123,13 +123,13 @@ module _ (E : Env) (quiet : (name address : ℕ) (vs : List Val) → Quiet (E.fo
       every_bind Inner (every_try Inner (q_taking root taken next)) (λ e _. every_done Inner (own_left (address_or at ss) e))
   terminate_own ss (switch at root cs) = every_bind Inner (every_try Inner (q_choosing root cs)) (λ e _. every_done Inner (own_left (address_or at ss) e))
 
-  settle_own : (b : ℕ) (block : Block) (k : ℕ) → Every Inner None OwnNext (settle E b block k)
+  settle_own : (b : ℕ) (block : Block) (k : ℕ) → Every Inner Never OwnNext (settle E b block k)
   unfolding settle
   settle_own b block k = every_if Inner (ltb k (length block.statements)) (every_done Inner tt) (terminate_own block.statements block.terminator)
 
-  onward_own : (b : ℕ) (block : Block) (k : ℕ) (o : Option Stop) → OwnStop o → Every Inner None OwnNext (onward E b block k o)
-  onward_own b block k none h = settle_own b block (suc k)
-  onward_own b block k (some s) h = every_done Inner h
+  onward_own : (b : ℕ) (block : Block) (k : ℕ) (o : Option Stop) → OwnStop o → Every Inner Never OwnNext (onward E b block k o)
+  onward_own b block k None h = settle_own b block (suc k)
+  onward_own b block k (Some s) h = every_done Inner h
 
   module _ (P : Program) where
     -- ---- statements
@@ -151,10 +151,10 @@ module _ (E : Env) (quiet : (name address : ℕ) (vs : List Val) → Quiet (E.fo
     own_outcome at (stopped x) h = tt
 
     module _ (b : ℕ) (s : Statement) where
-      caught : Every Inner None (EndIs Any (λ o. OwnStop o.1)) (try (outcome P E s.address (look E s.root)))
+      caught : Every Inner Never (EndIs Any (λ o. OwnStop o.1)) (try (outcome P E s.address (look E s.root)))
       caught = every_try Inner (outcome_own s.address (q_look E quiet s.root))
 
-      pub statement_own : Every Unpaid None OwnStop (run_statement P E b s)
+      pub statement_own : Every Unpaid Never OwnStop (run_statement P E b s)
       unfolding run_statement ◌>>=◌
       statement_own =
           every_act Unpaid tt (λ _. every_bind Unpaid (every_more unpaid caught)
@@ -172,11 +172,11 @@ module _ (E : Env) (quiet : (name address : ℕ) (vs : List Val) → Quiet (E.fo
       pub statement_records : (w : World) (σ : State) → Records 1 σ (run w (run_statement P E b s) σ).after
       unfolding run_statement ◌>>=◌ run
       statement_records w σ =
-          let r = run w (try (outcome P E s.address (look E s.root))) (leaving none σ) in
-          rw (run_bind w recording (try (outcome P E s.address (look E s.root))) (leaving none σ)) (emitted r.end r.log r.after (every_end Inner w (leaving none σ) caught) (quiet_records w caught (leaving none σ)))
+          let r = run w (try (outcome P E s.address (look E s.root))) (leaving None σ) in
+          rw (run_bind w recording (try (outcome P E s.address (look E s.root))) (leaving None σ)) (emitted r.end r.log r.after (every_end Inner w (leaving None σ) caught) (quiet_records w caught (leaving None σ)))
         where
-          emitted : (e : End (End Outcome)) (l : List Entry) (σ' : State) → EndIs None (EndIs Any (λ o. OwnStop o.1)) e
-              → Records 0 (leaving none σ) σ' → Records 1 σ (go_on e l σ' (λ a σ''. run w (recording a) σ'')).after
+          emitted : (e : End (End Outcome)) (l : List Entry) (σ' : State) → EndIs Never (EndIs Any (λ o. OwnStop o.1)) e
+              → Records 0 (leaving None σ) σ' → Records 1 σ (go_on e l σ' (λ a σ''. run w (recording a) σ'')).after
           emitted (gave a) l σ' h p = record { budget = p.budget; steps = omega (arith, length-append σ'.steps (step_of a σ'.pending ∷ []), p.steps) }
           emitted (stopped x) l σ' h p = absurd h
 
@@ -184,30 +184,30 @@ module _ (E : Env) (quiet : (name address : ℕ) (vs : List Val) → Quiet (E.fo
 
     pub unit_is : (p : Place) → UnitIs (unit P E p)
     unfolding unit
-    unit_is (before b) = go (get_elem? P.blocks b)
+    unit_is (before b) = go (slice_get P.blocks b)
       where
-        go : (o : Option Block) → UnitIs (elim o [ none ↦ none | some block ↦ some (true, settle E b block 0) ])
-        go none = tt
-        go (some block) = record { own = every_more unpaid (settle_own b block 0); records = λ w σ. quiet_records w (settle_own b block 0) σ }
-    unit_is (within b k) = go (get_elem? P.blocks b)
+        go : (o : Option Block) → UnitIs (elim o [ None ↦ None | Some block ↦ Some (true, settle E b block 0) ])
+        go None = tt
+        go (Some block) = record { own = every_more unpaid (settle_own b block 0); records = λ w σ. quiet_records w (settle_own b block 0) σ }
+    unit_is (within b k) = go (slice_get P.blocks b)
       where
         ran : (block : Block) (s : Statement) (w : World) (σ : State) → Records 1 σ (run w (run_statement P E b s >>= onward E b block k) σ).after
         ran block s w σ =
             let r = run w (run_statement P E b s) σ in
             rw run_bind (on r.end r.log r.after (every_end Unpaid w σ (statement_own b s)) (statement_records b s w σ))
           where
-            on : (e : End (Option Stop)) (l : List Entry) (σ' : State) → EndIs None OwnStop e → Records 1 σ σ'
+            on : (e : End (Option Stop)) (l : List Entry) (σ' : State) → EndIs Never OwnStop e → Records 1 σ σ'
                 → Records 1 σ (go_on e l σ' (λ o σ''. run w (onward E b block k o) σ'')).after
             on (gave o) l σ' h p = records_more p (quiet_records w (onward_own b block k o h) σ')
             on (stopped x) l σ' h p = absurd h
 
-        then : (block : Block) (o : Option Statement) → UnitIs (elim o [ none ↦ none | some s ↦ some (false, run_statement P E b s >>= onward E b block k) ])
-        then block none = tt
-        then block (some s) = record {
+        then : (block : Block) (o : Option Statement) → UnitIs (elim o [ None ↦ None | Some s ↦ Some (false, run_statement P E b s >>= onward E b block k) ])
+        then block None = tt
+        then block (Some s) = record {
           own = every_bind Unpaid (statement_own b s) (λ o h. every_more unpaid (onward_own b block k o h));
           records = ran block s;
         }
 
-        go : (o : Option Block) → UnitIs (elim o [ none ↦ none | some block ↦ elim (get_elem? block.statements k) [ none ↦ none | some s ↦ some (false, run_statement P E b s >>= onward E b block k) ] ])
-        go none = tt
-        go (some block) = then block (get_elem? block.statements k)
+        go : (o : Option Block) → UnitIs (elim o [ None ↦ None | Some block ↦ elim (slice_get block.statements k) [ None ↦ None | Some s ↦ Some (false, run_statement P E b s >>= onward E b block k) ] ])
+        go None = tt
+        go (Some block) = then block (slice_get block.statements k)

@@ -3,7 +3,8 @@
 use mathlib.Core.Path.{◌≡◌, refl, sym, ap, ◌∙◌}
 use mathlib.Core.Bool.{Bool, true, false}
 use mathlib.Core.List.{List, [], ◌∷◌}
-use mathlib.Core.Option.{Option, none, some, some-injective, none-ne-some}
+use Rattle.std.proofs.lemmas.Option.{same_Some, none-some}
+use Rattle.std.specs.Prelude.{Option, None, Some}
 use Prim.Native.Nat.{ℕ, zero, suc, ◌+◌, ◌≤◌}
 use native.Mathlib.Nat.{le_refl}
 use native.Mathlib.Omega.{arith}
@@ -22,7 +23,7 @@ use Rattle.definition.specs.Run.{acts, start, stop_of, ran_of, ran_in}
 use Rattle.definition.proofs.Follow.{go_on, run_bind}
 use Rattle.definition.proofs.Budget.{asked, balanced}
 use Rattle.definition.proofs.Fuel.{further, paying, turn, last_turn}
-use Rattle.definition.proofs.Every.{None, EndIs, every_end}
+use Rattle.definition.proofs.Every.{Never, EndIs, every_end}
 use Rattle.definition.proofs.Evaluation.{Quiet, q_done, q_ask}
 use Rattle.definition.proofs.Units.{Own, OwnNext, Records, steps_of, UnitOf, UnitIs, unit_is, Unpaid}
 
@@ -55,14 +56,14 @@ module _ (P : Program) (E : Env) (quiet : (name address : ℕ) (vs : List Val) �
   walk_is zero p σ h c = go (unit P E p)
     where
       go : (o : Option (Bool × Act Next)) → Walked (run w (last_turn P E p o) σ)
-      go none = record { settled = tt; counted = c }
-      go (some u) = record { settled = omega (arith, h); counted = c }
+      go None = record { settled = tt; counted = c }
+      go (Some u) = record { settled = omega (arith, h); counted = c }
   walk_is (suc m) p σ h c = go (unit P E p) (unit_is E quiet P p) (λ q σ' l d. walk_is m q σ' l d)
     where
       Less : Type 0
       Less = (q : Place) (σ' : State) → σ'.budget.left ≤ m → Counted σ' → Walked (run w (walk P E m q) σ')
 
-      on : (e : End Next) (l : List Entry) (σ' : State) → EndIs None OwnNext e → σ'.budget.left ≤ m → Counted σ' → Less
+      on : (e : End Next) (l : List Entry) (σ' : State) → EndIs Never OwnNext e → σ'.budget.left ≤ m → Counted σ' → Less
           → Walked (go_on e l σ' (λ n σ''. run w (further P E m n) σ''))
       on (gave (stops s)) l σ' own k d ih = record { settled = own; counted = d }
       on (gave (goes q)) l σ' own k d ih = let r = ih q σ' k d in record { settled = r.settled; counted = r.counted }
@@ -80,8 +81,8 @@ module _ (P : Program) (E : Env) (quiet : (name address : ℕ) (vs : List Val) �
 
       go : (o : Option (Bool × Act Next)) → UnitIs o → Less
           → Walked (run w (turn P E m p o) σ)
-      go none is ih = record { settled = tt; counted = c }
-      go (some u) is ih = pays u σ.budget.left refl is ih
+      go None is ih = record { settled = tt; counted = c }
+      go (Some u) is ih = pays u σ.budget.left refl is ih
 
 -- ---- the run of a program
 
@@ -150,22 +151,22 @@ pub record Walks (limit : ℕ) (r : Ran) : Type 0 where
   pub all : (n : ℕ) → r.stop ≡ Steps n → (n ≡ limit) × (r.entered + r.recorded ≡ limit)
 
 abbrev limit_in : Stop → Option ℕ
-limit_in (Steps n) = some n
-limit_in (Returned v) = none
-limit_in (Unknown at x) = none
-limit_in (NoBlock b) = none
-limit_in NoBlocks = none
-limit_in (NoReturn at) = none
-limit_in (Halted at target) = none
+limit_in (Steps n) = Some n
+limit_in (Returned v) = None
+limit_in (Unknown at x) = None
+limit_in (NoBlock b) = None
+limit_in NoBlocks = None
+limit_in (NoReturn at) = None
+limit_in (Halted at target) = None
 
-all_spent : (limit n : ℕ) (e : End Stop) (σ : State) → Stopped limit e σ → limit_in (stop_of e) ≡ some n → (n ≡ limit) × (σ.budget.left ≡ 0)
-all_spent limit n (gave (Steps m)) σ h e = (sym (some-injective m n e) ∙ h.0, h.1)
-all_spent limit n (gave (Returned v)) σ h e = absurd (none-ne-some n e)
-all_spent limit n (gave (Unknown at x)) σ h e = absurd (none-ne-some n e)
-all_spent limit n (gave (NoBlock b)) σ h e = absurd (none-ne-some n e)
-all_spent limit n (gave NoBlocks) σ h e = absurd (none-ne-some n e)
-all_spent limit n (gave (NoReturn at)) σ h e = absurd (none-ne-some n e)
-all_spent limit n (gave (Halted at target)) σ h e = absurd (none-ne-some n e)
+all_spent : (limit n : ℕ) (e : End Stop) (σ : State) → Stopped limit e σ → limit_in (stop_of e) ≡ Some n → (n ≡ limit) × (σ.budget.left ≡ 0)
+all_spent limit n (gave (Steps m)) σ h e = (sym (same_Some m n e) ∙ h.0, h.1)
+all_spent limit n (gave (Returned v)) σ h e = absurd (none-some n e)
+all_spent limit n (gave (Unknown at x)) σ h e = absurd (none-some n e)
+all_spent limit n (gave (NoBlock b)) σ h e = absurd (none-some n e)
+all_spent limit n (gave NoBlocks) σ h e = absurd (none-some n e)
+all_spent limit n (gave (NoReturn at)) σ h e = absurd (none-some n e)
+all_spent limit n (gave (Halted at target)) σ h e = absurd (none-some n e)
 all_spent limit n (stopped x) σ h e = absurd h
 
 pub walks : (w : World) (P : Program) (l : Limits) → Walks l.steps (ran_in w P l)

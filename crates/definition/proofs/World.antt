@@ -1,7 +1,7 @@
 -- What a world file gives fits its fields in a record, whatever the file holds (`world_fits`). Assumes nothing.
 use mathlib.Core.Bool.{Bool, true, false, ◌&&◌}
 use mathlib.Core.List.{List, [], ◌∷◌}
-use mathlib.Core.Option.{Option, none, some}
+use Rattle.std.specs.Prelude.{Option, None, Some}
 use Prim.Native.Nat.{ℕ, zero, suc, ◌+◌, ◌-◌, ◌≤◌}
 use native.Mathlib.Nat.{le_trans}
 use native.Mathlib.Omega.{arith}
@@ -22,8 +22,8 @@ abbrev SymbolFits : Symbol → Type 0
 SymbolFits s = Below 2 s.0 × (Below 1 s.1.0 × Below 8 s.1.1)
 
 abbrev FoundFits : Option Symbol → Type 0
-FoundFits none = Unit
-FoundFits (some s) = SymbolFits s
+FoundFits None = Unit
+FoundFits (Some s) = SymbolFits s
 
 abbrev RegionFits : Region → Type 0
 RegionFits r = Below 8 r.0 × (Below 4 (length r.1) × Each (Below 1) r.1)
@@ -39,25 +39,25 @@ unfolding symbol_of
 found_fits names [] name h = tt
 found_fits names (s ∷ ss) name h = go (same (get_or names s.0 []) name) (found_fits names ss name h.1)
   where
-    go : (b : Bool) → FoundFits (symbol_of names ss name) → FoundFits (elim b [ true ↦ some s | false ↦ symbol_of names ss name ])
+    go : (b : Bool) → FoundFits (symbol_of names ss name) → FoundFits (elim b [ true ↦ Some s | false ↦ symbol_of names ss name ])
     go true f = h.0
     go false f = f
 
 address_fits : (o : Option Symbol) → FoundFits o → OptionFits (address_in o)
-address_fits none h = tt
-address_fits (some s) h = h.1.1
+address_fits None h = tt
+address_fits (Some s) h = h.1.1
 
 told_fits : (n : ℕ) → Below 1 n → OptionFits (unless_zero n)
 told_fits zero h = tt
 told_fits (suc n) h = le_trans h (lit≤ tt)
 
 size_fits : (o : Option Symbol) → FoundFits o → OptionFits (size_in o)
-size_fits none h = tt
-size_fits (some s) h = told_fits s.1.0 h.1.0
+size_fits None h = tt
+size_fits (Some s) h = told_fits s.1.0 h.1.0
 
 abbrev ByteFits : Option ℕ → Type 0
-ByteFits none = Unit
-ByteFits (some b) = Below 1 b
+ByteFits None = Unit
+ByteFits (Some b) = Below 1 b
 
 get_d_fits : (bs : List ℕ) (i : ℕ) → Each (Below 1) bs → Below 1 (get_or bs i 0)
 get_d_fits [] i h = lit< tt
@@ -69,7 +69,7 @@ unfolding byte_at
 byte_fits [] a h = tt
 byte_fits (r ∷ rs) a h = go (leb r.0 a && ltb a (r.0 + length r.1)) (byte_fits rs a h.1)
   where
-    go : (b : Bool) → ByteFits (byte_at rs a) → ByteFits (elim b [ true ↦ some (get_or r.1 (a - r.0) 0) | false ↦ byte_at rs a ])
+    go : (b : Bool) → ByteFits (byte_at rs a) → ByteFits (elim b [ true ↦ Some (get_or r.1 (a - r.0) 0) | false ↦ byte_at rs a ])
     go true f = get_d_fits r.1 (a - r.0) h.0.1.1
     go false f = f
 
@@ -79,10 +79,10 @@ bytes_fit rs zero a h = (omega arith, tt)
 bytes_fit rs (suc n) a h = go (byte_at rs a) (byte_fits rs a h) (bytes_fit rs n (suc a) h)
   where
     go : (o : Option ℕ) → ByteFits o → (length (bytes_from rs n (suc a)) ≤ n) × Each (Below 1) (bytes_from rs n (suc a))
-        → (length {A = ℕ} (elim o [ none ↦ [] | some b ↦ b ∷ bytes_from rs n (suc a) ]) ≤ suc n)
-        × Each (Below 1) (elim o [ none ↦ [] | some b ↦ b ∷ bytes_from rs n (suc a) ])
-    go none f g = (omega arith, tt)
-    go (some b) f g = (omega arith, (f, g.1))
+        → (length {A = ℕ} (elim o [ None ↦ [] | Some b ↦ b ∷ bytes_from rs n (suc a) ]) ≤ suc n)
+        × Each (Below 1) (elim o [ None ↦ [] | Some b ↦ b ∷ bytes_from rs n (suc a) ])
+    go None f g = (omega arith, tt)
+    go (Some b) f g = (omega arith, (f, g.1))
 
 pub world_fits : (routine world : List ℕ) (κ : Asked) (q : Question κ) → AnswerFits κ (world_of routine world κ (cut κ q))
 unfolding world_of symbol_address symbol_size image_bytes

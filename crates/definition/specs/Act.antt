@@ -1,7 +1,6 @@
 -- A run as a tree of what it does: it asks its world, it does something with its own state, it ends. What the Rust's `Machine` does step by step is
 -- here a value, so that what holds of any such tree is proved once. Assumes nothing.
-use Rattle.std.specs.Prelude.{Bool, List, ℕ}
-use Rattle.std.proofs.Math.Option.{Option}
+use Rattle.std.specs.Prelude.{Bool, List, ℕ, Option}
 use Rattle.value.specs.declared.Val.{Val}
 use Rattle.memory.specs.Overlay.{Cell}
 use Rattle.definition.specs.Question.{Asked, Question, Answer}

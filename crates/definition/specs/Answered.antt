@@ -1,6 +1,5 @@
 -- What each entry gives, and what it leaves in the buffers that are lent to it, on all inputs: what the entries' contracts state. Assumes nothing.
-use Rattle.std.specs.Prelude.{◌≡◌, Bool, List, ◌++◌, ℕ, length, drop, replicate}
-use Rattle.std.proofs.Math.Option.{Option, none, some}
+use Rattle.std.specs.Prelude.{◌≡◌, Bool, List, ◌++◌, ℕ, length, drop, replicate, Option, None, Some}
 use Rattle.value.specs.declared.Val.{Val}
 use Rattle.definition.specs.Fields.{no_val}
 use Rattle.definition.specs.Run.{record_of, Verdict, refused, cleared, accepted, verdict, number}
@@ -33,8 +32,8 @@ abbrev pub val_of : (known signed : Bool) → (bits number : ℕ) → Val
 val_of known signed bits number = record { known = known; signed = signed; bits = bits; number = number }
 
 abbrev pub val_or : Option Val → Val
-val_or none = no_val
-val_or (some v) = v
+val_or None = no_val
+val_or (Some v) = v
 
 -- "a node number gives a known value or none", a refusal none; the workspace is as after a run
 module _ (routine : List ℕ) (node : ℕ) (workspace₀ : List ℕ) where

@@ -1,7 +1,6 @@
 -- `constant_value`: "a node number gives a known value or none, defaults as limits". It "has a workspace and no record, and meets 20 and 21 too".
 -- Assumes nothing.
-use Rattle.std.specs.Prelude.{true, false, List, [], ℕ, zero, suc, length, ltb}
-use Rattle.std.proofs.Math.Option.{Option, none, some}
+use Rattle.std.specs.Prelude.{true, false, List, [], ℕ, zero, suc, length, ltb, Option, None, Some}
 use Rattle.value.specs.declared.Val.{Val}
 use Rattle.files.specs.Call.{usual}
 use Rattle.files.specs.FileTable.{body}
@@ -17,21 +16,21 @@ use Rattle.definition.specs.Run.{Verdict, refused, from_state, workspace_needed,
 
 -- the Rust's `Nothing`: a world that answers none
 abbrev pub nothing : World
-nothing address_of n = none
-nothing size_of n = none
+nothing address_of n = None
+nothing size_of n = None
 nothing read_at q = []
 nothing call_to q = tt
 
 -- no variable is declared, and no call is asked: "As deep as calls go, so none is followed"
 abbrev pub constant_env : Program → Env
-constant_env P = record { types = P.types; declared = λ x. none; follow = follow_at 0 }
+constant_env P = record { types = P.types; declared = λ x. None; follow = follow_at 0 }
 
 unfoldable pub constant_run : (routine : List ℕ) → (node : ℕ) → Out Val
 constant_run routine n = run nothing (eval (look (constant_env (program_of routine)) (tree_at (body routine 3) n))) (fresh usual.steps [])
 
 abbrev pub known_only : End Val → Option Val
-known_only (stopped x) = none
-known_only (gave v) = elim v.known [ true ↦ some v | false ↦ none ]
+known_only (stopped x) = None
+known_only (gave v) = elim v.known [ true ↦ Some v | false ↦ None ]
 
 unfoldable pub constant_value : (routine : List ℕ) → (node : ℕ) → Option Val
 constant_value routine n = known_only (constant_run routine n).end

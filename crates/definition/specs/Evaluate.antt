@@ -1,10 +1,9 @@
 -- What evaluating and executing a tree does: the Rust's `eval`, `execute` and `pointer`. Assumes nothing.
-use Rattle.std.specs.Prelude.{true, false, ◌&&◌, ◌||◌, List, [], ◌∷◌, ℕ, ◌+◌, ◌*◌, ◌%◌, ◌^◌, get_or, eqb}
-use Rattle.std.proofs.Math.Option.{Option, none, some}
+use Rattle.std.specs.Prelude.{true, false, ◌&&◌, ◌||◌, List, [], ◌∷◌, ℕ, ◌+◌, ◌*◌, ◌%◌, ◌^◌, get_or, eqb, Option, None, Some, Result, Ok, Err}
 use Rattle.value.specs.declared.Ty.{Ty}
 use Rattle.value.specs.declared.Val.{Val}
-use Rattle.value.specs.declared.Answer.{Answer}
-use Rattle.value.specs.declared.Answer.TheVariants.{Value, DivisionByZero}
+use Rattle.value.specs.declared.ArithmeticError.{ArithmeticError}
+use Rattle.value.specs.declared.ArithmeticError.TheVariants.{DivisionByZero}
 use Rattle.value.specs.Value.{type, type_of_val, known_val, unknown_val, cast_to}
 use Rattle.value.specs.Operators.{operator_of, binary_of}
 use Rattle.spelling.specs.Spelling.{type_of, ends_star, before_star}
@@ -26,38 +25,38 @@ pub record Did : Type 0 where
   pub note : Note
 
 abbrev pub did : Note → Did
-did n = record { wrote = none; note = n }
+did n = record { wrote = None; note = n }
 
 -- a symbol's size as a width in bits, if it is 1, 2, 4 or 8 bytes
 abbrev pub width_in : Option ℕ → Option ℕ
-width_in none = none
-width_in (some n) = elim (eqb n 1 || eqb n 2 || eqb n 4 || eqb n 8) [ true ↦ some (n * 8) | false ↦ none ]
+width_in None = None
+width_in (Some n) = elim (eqb n 1 || eqb n 2 || eqb n 4 || eqb n 8) [ true ↦ Some (n * 8) | false ↦ None ]
 
 abbrev pub type_or : Option Ty → Ty
-type_or none = type 64 true
-type_or (some t) = t
+type_or None = type 64 true
+type_or (Some t) = t
 
 -- a known number, or else none
 abbrev pub number_in : Val → Option ℕ
-number_in v = elim v.known [ true ↦ some v.number | false ↦ none ]
+number_in v = elim v.known [ true ↦ Some v.number | false ↦ None ]
 
 -- `c ? a : b`, both evaluated
 abbrev pub chosen : Val → Val → Val → Val
-chosen c a b = elim (number_in c) [ none ↦ unknown_val (type_of_val a) | some n ↦ elim (eqb n 0) [ true ↦ b | false ↦ a ] ]
+chosen c a b = elim (number_in c) [ None ↦ unknown_val (type_of_val a) | Some n ↦ elim (eqb n 0) [ true ↦ b | false ↦ a ] ]
 
-abbrev pub answered : Answer → Act Val
-answered (Value v) = done v
-answered DivisionByZero = fail by_zero
+abbrev pub answered : Result Val ArithmeticError → Act Val
+answered (Ok v) = done v
+answered (Err DivisionByZero) = fail by_zero
 
 -- an Assign's value: what it wrote to a variable
 abbrev pub value_of : Option (ℕ × Val) → Val
-value_of none = nothing
-value_of (some p) = p.1
+value_of None = nothing
+value_of (Some p) = p.1
 
 -- a Call or an Intrinsic as a statement: note 3 where the value is unknown and no note is left
 abbrev pub unknown_note : Val → Pending → Note
-unknown_note v (some taken) = no_note
-unknown_note v none = elim v.known [ true ↦ no_note | false ↦ result_unknown ]
+unknown_note v (Some taken) = no_note
+unknown_note v None = elim v.known [ true ↦ no_note | false ↦ result_unknown ]
 
 module _ (E : Env) where
   abbrev pub type_text : Term → List ℕ
@@ -70,22 +69,22 @@ module _ (E : Env) where
   read_variable x = do
     set? ← get x done
     elim set? [
-      | some v ↦ done v
-      | none ↦ ask address_of x (λ symbol. elim symbol [
-        | none ↦ done (unknown_val (type_or (E.declared x)))
-        | some a ↦ ask size_of x (λ size. elim (width_in size) [ none ↦ done nothing | some bits ↦ load a (type bits true) ])
+      | Some v ↦ done v
+      | None ↦ ask address_of x (λ symbol. elim symbol [
+        | None ↦ done (unknown_val (type_or (E.declared x)))
+        | Some a ↦ ask size_of x (λ size. elim (width_in size) [ None ↦ done nothing | Some bits ↦ load a (type bits true) ])
       ])
     ]
 
   -- one that is declared; else a symbol, written at its width; else one that is not declared, as it is. Gives what is stored
   unfoldable pub write_variable : ℕ → Val → Act Val
   write_variable x v = elim (E.declared x) [
-    | some t ↦ set x (cast_to v t) (done (cast_to v t))
-    | none ↦ ask address_of x (λ symbol. elim symbol [
-      | none ↦ set x v (done v)
-      | some a ↦ ask size_of x (λ size. elim (width_in size) [
-        | none ↦ fail (no_width x)
-        | some bits ↦ let c = cast_to v (type bits v.signed) in store_val a c >> done c
+    | Some t ↦ set x (cast_to v t) (done (cast_to v t))
+    | None ↦ ask address_of x (λ symbol. elim symbol [
+      | None ↦ set x v (done v)
+      | Some a ↦ ask size_of x (λ size. elim (width_in size) [
+        | None ↦ fail (no_width x)
+        | Some bits ↦ let c = cast_to v (type bits v.signed) in store_val a c >> done c
       ])
     ])
   ]
@@ -94,13 +93,13 @@ module _ (E : Env) where
 
   -- the type that a Cast to a pointer type points at
   abbrev pub pointee_of : Term → Option Ty
-  pointee_of t = elim (is Cast t && ends_star (type_text t)) [ true ↦ some (type_of (before_star (type_text t))) | false ↦ none ]
+  pointee_of t = elim (is Cast t && ends_star (type_text t)) [ true ↦ Some (type_of (before_star (type_text t))) | false ↦ None ]
 
   -- a Deref's target: the address, and the type of what it points at. A Cast to a pointer is not evaluated, what is under it is
   unfoldable pub pointer : Term → Act (Val × Ty)
   pointer t = elim (pointee_of t) [
-    | some p ↦ eval (kid 0 (kids t)) >>= λ v. done (v, p)
-    | none ↦ eval t >>= λ v. done (v, type 64 true)
+    | Some p ↦ eval (kid 0 (kids t)) >>= λ v. done (v, p)
+    | None ↦ eval t >>= λ v. done (v, type 64 true)
   ]
 
   -- ---- Assign
@@ -121,21 +120,21 @@ module _ (E : Env) where
         let target = kid 0 (kids l) in
         let base : Term = elim (is Cast target) [ true ↦ kid 0 (kids target) | false ↦ target ] in
         eval base >>= λ v. elim (number_in v) [
-          | none ↦ fail (unknown_address (node base).place)
-          | some a ↦ store_fields a fields >> done (did (fields_written a (count fields)))
+          | None ↦ fail (unknown_address (node base).place)
+          | Some a ↦ store_fields a fields >> done (did (fields_written a (count fields)))
         ]
   ]
 
   -- a value is stored to a variable, or through a pointer
   unfoldable pub assign_val : Term → Val → Act Did
   assign_val l v = elim (is Var l) [
-    | true ↦ write_variable (node l).ref v >>= λ stored. done (record { wrote = some ((node l).ref, stored); note = no_note })
+    | true ↦ write_variable (node l).ref v >>= λ stored. done (record { wrote = Some ((node l).ref, stored); note = no_note })
     | false ↦ elim (is Deref l) [
       | true ↦
           let target = kid 0 (kids l) in
           pointer target >>= λ p. elim (number_in p.0) [
-            | none ↦ fail (unknown_address (node target).place)
-            | some a ↦ store_val a (cast_to v p.1) >> done (did (value_written a (cast_to v p.1)))
+            | None ↦ fail (unknown_address (node target).place)
+            | Some a ↦ store_val a (cast_to v p.1) >> done (did (value_written a (cast_to v p.1)))
           ]
       | false ↦ fail (store_to (node l).place)
     ]
@@ -150,21 +149,21 @@ module _ (E : Env) where
   -- a local whose address an argument is, with its type
   abbrev pub taken_by : Term → Option (ℕ × Ty)
   taken_by t = elim (is AddressOf t && is Var (kid 0 (kids t))) [
-    | true ↦ let x = (node (kid 0 (kids t))).ref in elim (E.declared x) [ none ↦ none | some y ↦ some (x, y) ]
-    | false ↦ none
+    | true ↦ let x = (node (kid 0 (kids t))).ref in elim (E.declared x) [ None ↦ None | Some y ↦ Some (x, y) ]
+    | false ↦ None
   ]
 
   -- those become unknown; gives their names
   unfoldable pub take_names : Terms → Act (List ℕ)
   take_names no_terms = done []
   take_names (more_terms t ts) = elim (taken_by t) [
-    | none ↦ take_names ts
-    | some p ↦ set p.0 (unknown_val p.1) (take_names ts >>= λ xs. done (p.0 ∷ xs))
+    | None ↦ take_names ts
+    | Some p ↦ set p.0 (unknown_val p.1) (take_names ts >>= λ xs. done (p.0 ∷ xs))
   ]
 
   -- only a FunctionName is followed
   unfoldable pub followed : Term → List Val → Act (Option Val)
-  followed callee vs = elim (is FunctionName callee) [ true ↦ E.follow (node callee).ref (node callee).value vs | false ↦ done none ]
+  followed callee vs = elim (is FunctionName callee) [ true ↦ E.follow (node callee).ref (node callee).value vs | false ↦ done None ]
 
   -- the arguments are evaluated, not the callee
   unfoldable pub call : Term → Terms → Act Val
@@ -172,8 +171,8 @@ module _ (E : Env) where
     vs ← evals arguments
     result ← followed callee vs
     elim result [
-      | some answer ↦ done answer
-      | none ↦ take_names arguments >>= λ taken. leave (some taken) (done nothing)
+      | Some answer ↦ done answer
+      | None ↦ take_names arguments >>= λ taken. leave (Some taken) (done nothing)
     ]
 
   -- ---- every kind
@@ -181,12 +180,12 @@ module _ (E : Env) where
   -- `&x` for a symbol x; nothing is evaluated
   unfoldable pub address_val : Term → Act Val
   address_val t = elim (is Var t) [
-    | true ↦ ask address_of (node t).ref (λ a. done (elim a [ none ↦ unknown_val (type 64 false) | some n ↦ known_val n (type 64 false) ]))
+    | true ↦ ask address_of (node t).ref (λ a. done (elim a [ None ↦ unknown_val (type 64 false) | Some n ↦ known_val n (type 64 false) ]))
     | false ↦ done (unknown_val (type 64 false))
   ]
 
   abbrev pub load_through : Val × Ty → Act Val
-  load_through p = elim (number_in p.0) [ none ↦ done (unknown_val p.1) | some a ↦ load a p.1 ]
+  load_through p = elim (number_in p.0) [ None ↦ done (unknown_val p.1) | Some a ↦ load a p.1 ]
 
   -- the Rust's `eval`: a node of a kind, with its children. A Field is not evaluated. "Evaluating an Assign executes it"
   unfoldable pub eval_as : Kind → Node → Terms → Act Val

@@ -1,6 +1,5 @@
 -- How values, questions and answers stand in a record (document 01, "The record"), and the fields that a world gives to a question. Assumes nothing.
-use Rattle.std.specs.Prelude.{false, List, ℕ, zero, suc, length}
-use Rattle.std.proofs.Math.Option.{Option, none, some}
+use Rattle.std.specs.Prelude.{false, List, ℕ, zero, suc, length, Option, None, Some}
 use Rattle.value.specs.declared.Val.{Val}
 use Rattle.layout.specs.Format.{Format, number, then, pair, via, times, counted}
 use Rattle.value.specs.Encoding.{val}
@@ -14,8 +13,8 @@ no_val = record { known = false; signed = false; bits = 0; number = 0 }
 
 -- "flag u8", then a u64: both 0 for none
 abbrev pub flag_and_number : Option ℕ → ℕ × ℕ
-flag_and_number none = (0, 0)
-flag_and_number (some n) = (1, n)
+flag_and_number None = (0, 0)
+flag_and_number (Some n) = (1, n)
 
 -- ---- questions: "kind u8 (1 `address_of`, 2 `size_of`, 3 `read`, 4 `call`)"
 

@@ -1,7 +1,6 @@
 -- The listing (document 01, "The listing"): the Rust's `Run::text`, "with the statement's number for its text and `node N` where the Rust prints an
 -- expression". Assumes nothing.
-use Rattle.std.specs.Prelude.{true, false, List, [], ◌∷◌, ◌++◌, ℕ, zero, suc, get_or, ltb, ℤ, pos, negsuc}
-use Rattle.std.proofs.Math.Option.{Option, none, some}
+use Rattle.std.specs.Prelude.{true, false, List, [], ◌∷◌, ◌++◌, ℕ, zero, suc, get_or, ltb, ℤ, pos, negsuc, Option, None, Some}
 use Rattle.value.specs.declared.Val.{Val}
 use Rattle.value.specs.Value.{type, read_as, meaning}
 use Rattle.layout.specs.Text.{text}
@@ -47,12 +46,12 @@ module _ (names : List (List ℕ)) where
   why_text by_zero = text "a division by zero"
 
   abbrev pub stopped_text : Option ℕ → List ℕ
-  stopped_text none = text "stopped: "
-  stopped_text (some a) = text "stopped at " ++ (hexadecimal a ++ text ": ")
+  stopped_text None = text "stopped: "
+  stopped_text (Some a) = text "stopped at " ++ (hexadecimal a ++ text ": ")
 
   abbrev pub stop_text : Stop → List ℕ
-  stop_text (Returned none) = text "returned"
-  stop_text (Returned (some v)) = text "returned " ++ val_text v
+  stop_text (Returned None) = text "returned"
+  stop_text (Returned (Some v)) = text "returned " ++ val_text v
   stop_text (Steps limit) = text "stopped after " ++ (decimal limit ++ text " steps")
   stop_text (Unknown at x) = stopped_text at ++ why_text x
   stop_text (NoBlock block) = text "stopped: no block " ++ decimal block
@@ -76,12 +75,12 @@ module _ (names : List (List ℕ)) where
   note_text (not_followed (x ∷ xs)) = text "  ; not followed; its result is unknown, as are " ++ (commas x xs ++ text " after it")
 
   abbrev pub address_text : Option ℕ → List ℕ
-  address_text none = text "        "
-  address_text (some a) = padded (digits 64 16 a)
+  address_text None = text "        "
+  address_text (Some a) = padded (digits 64 16 a)
 
   abbrev pub wrote_text : Option (ℕ × Val) → List ℕ
-  wrote_text none = []
-  wrote_text (some w) = text "  ; " ++ (name_text w.0 ++ (text " = " ++ val_text w.1))
+  wrote_text None = []
+  wrote_text (Some w) = text "  ; " ++ (name_text w.0 ++ (text " = " ++ val_text w.1))
 
   abbrev pub step_text : Step → List ℕ
   step_text s =

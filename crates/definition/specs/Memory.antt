@@ -1,6 +1,5 @@
 -- Loads and stores: the Rust's `load` and `store`. Addresses wrap at 2 ^ 64. Assumes nothing.
-use Rattle.std.specs.Prelude.{true, false, List, [], ◌∷◌, ℕ, zero, suc, ◌/◌, ◌%◌, ◌^◌, max, drop}
-use Rattle.std.proofs.Math.Option.{Option, none, some}
+use Rattle.std.specs.Prelude.{true, false, List, [], ◌∷◌, ℕ, zero, suc, ◌/◌, ◌%◌, ◌^◌, max, drop, Option, None, Some}
 use Rattle.value.specs.declared.Ty.{Ty}
 use Rattle.value.specs.declared.Val.{Val}
 use Rattle.value.specs.Value.{known_val, unknown_val}
@@ -11,17 +10,17 @@ use Rattle.definition.specs.Act.{Act, done, fail, ask, peek, poke, ◌>>=◌, un
 
 -- the bytes from a on: the run's own, else the image's, which one `read` answered ("a `read` of none hides later bytes"); none if one is missing
 unfoldable pub gather : ℕ → ℕ → List ℕ → Act (Option (List ℕ))
-gather zero a image = done (some [])
+gather zero a image = done (Some [])
 gather (suc n) a image = do
   own ← peek (a % 2 ^ 64) done
   elim (byte_or own image) [
-    | none ↦ done none
-    | some b ↦ gather n (suc a) (drop 1 image) >>= λ r. done (elim r [ none ↦ none | some bs ↦ some (b ∷ bs) ])
+    | None ↦ done None
+    | Some b ↦ gather n (suc a) (drop 1 image) >>= λ r. done (elim r [ None ↦ None | Some bs ↦ Some (b ∷ bs) ])
   ]
 
 abbrev pub loaded : Ty → Option (List ℕ) → Val
-loaded t none = unknown_val t
-loaded t (some bs) = known_val (num bs) t
+loaded t None = unknown_val t
+loaded t (Some bs) = known_val (num bs) t
 
 -- `read` is asked at every load, also where the run's own bytes are all there
 unfoldable pub load : ℕ → Ty → Act Val

@@ -1,6 +1,5 @@
 -- What a run asks of its world (the Rust's `World`), and what a world answers. Assumes nothing.
-use Rattle.std.specs.Prelude.{List, map, ℕ, ◌%◌, ◌^◌, take}
-use Rattle.std.proofs.Math.Option.{Option}
+use Rattle.std.specs.Prelude.{List, map, ℕ, ◌%◌, ◌^◌, take, Option}
 use Rattle.value.specs.declared.Val.{Val}
 
 -- "kind u8 (1 `address_of`, 2 `size_of`, 3 `read`, 4 `call`)"

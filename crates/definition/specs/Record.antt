@@ -1,7 +1,6 @@
 -- A record's bytes (document 01, "The record"): "Six pairs (offset u32 from the record's first byte, length u32), then the bodies back to back in this
 -- order. Unused fields are 0." Assumes nothing.
-use Rattle.std.specs.Prelude.{Bool, true, false, List, [], ◌∷◌, ◌++◌, map, ℕ, ◌+◌, ◌*◌, length, take, drop}
-use Rattle.std.proofs.Math.Option.{Option, none, some}
+use Rattle.std.specs.Prelude.{Bool, true, false, List, [], ◌∷◌, ◌++◌, map, ℕ, ◌+◌, ◌*◌, length, take, drop, Option, None, Some}
 use Rattle.value.specs.declared.Val.{Val}
 use Rattle.layout.specs.Number.{le, number_at}
 use Rattle.layout.specs.Format.{Format, number, flag, pair, counted, whole, writes}
@@ -40,12 +39,12 @@ unknown_fields at by_zero = stop_with 3 9 at 0 0 0 no_val
 
 -- "0 Returned with a value, 1 Returned, 2 Steps, 3 Unknown, 4 NoBlock, 5 NoBlocks, 6 NoReturn, 7 Halted"
 abbrev pub stop_fields : Stop → StopFields
-stop_fields (Returned (some v)) = stop_with 0 0 none 0 0 0 v
-stop_fields (Returned none) = stop_with 1 0 none 0 0 0 no_val
-stop_fields (Steps limit) = stop_with 2 0 none limit 0 0 no_val
+stop_fields (Returned (Some v)) = stop_with 0 0 None 0 0 0 v
+stop_fields (Returned None) = stop_with 1 0 None 0 0 0 no_val
+stop_fields (Steps limit) = stop_with 2 0 None limit 0 0 no_val
 stop_fields (Unknown at x) = unknown_fields at x
-stop_fields (NoBlock block) = stop_with 4 0 none block 0 0 no_val
-stop_fields NoBlocks = stop_with 5 0 none 0 0 0 no_val
+stop_fields (NoBlock block) = stop_with 4 0 None block 0 0 no_val
+stop_fields NoBlocks = stop_with 5 0 None 0 0 0 no_val
 stop_fields (NoReturn at) = stop_with 6 0 at 0 0 0 no_val
 stop_fields (Halted at target) = stop_with 7 0 at target 0 0 no_val
 
@@ -64,8 +63,8 @@ abbrev pub WroteFields : Type 0
 WroteFields = Bool × (ℕ × Val)
 
 abbrev pub wrote_fields : Option (ℕ × Val) → WroteFields
-wrote_fields none = (false, (0, no_val))
-wrote_fields (some w) = (true, w)
+wrote_fields None = (false, (0, no_val))
+wrote_fields (Some w) = (true, w)
 
 abbrev pub NoteFields : Type 0
 NoteFields = ℕ × (ℕ × (ℕ × (Val × List ℕ)))

@@ -1,6 +1,6 @@
 -- The defined run of a routine file with a world file and a call file, its record, and the number that it gives (the Rust's `run` and `run_with`;
 -- document 01, "From the input", "From the state"). Assumes nothing.
-use Rattle.std.specs.Prelude.{◌≡◌, true, false, ◌||◌, List, map, ℕ, zero, suc, length, ltb}
+use Rattle.std.specs.Prelude.{◌≡◌, true, false, ◌||◌, List, map, ℕ, zero, suc, length, ltb, None}
 use Rattle.value.specs.Value.{type, known_val}
 use Rattle.files.specs.Call.{Limits, limits_of}
 use Rattle.files.specs.Program.{Program, program_of}
@@ -12,7 +12,6 @@ use Rattle.definition.specs.Statements.{Stop, Unknown}
 use Rattle.definition.specs.Walk.{walk_all, env_of, variables_at_start, variables_at_end}
 use Rattle.definition.specs.World.{world_of}
 use Rattle.definition.specs.Record.{Ran, record_bytes}
-use Rattle.std.proofs.Math.Option.{none}
 
 -- ---- the run
 
@@ -26,7 +25,7 @@ start P l = fresh l.steps (variables_at_start P (map (λ a. known_val a (type 64
 -- the walk itself does not end short (proofs/Walked.antt): what ends a statement or a terminator short is its stop
 abbrev pub stop_of : End Stop → Stop
 stop_of (gave s) = s
-stop_of (stopped x) = Unknown none x
+stop_of (stopped x) = Unknown None x
 
 unfoldable pub ran_of : Program → Out Stop → Ran
 ran_of P o = record {

@@ -1,6 +1,5 @@
 -- The state of a run (the fields of the Rust's `Machine`), what each operation does with it, and what a tree comes to in a world. Assumes nothing.
-use Rattle.std.specs.Prelude.{Bool, true, false, List, [], ◌∷◌, ◌++◌, ℕ, zero, suc}
-use Rattle.std.proofs.Math.Option.{none}
+use Rattle.std.specs.Prelude.{Bool, true, false, List, [], ◌∷◌, ◌++◌, ℕ, zero, suc, None}
 use Rattle.value.specs.declared.Val.{Val}
 use Rattle.memory.specs.Overlay.{Overlay, Cell, find, store}
 use Rattle.definition.specs.Question.{World, Entry, cut}
@@ -22,7 +21,7 @@ pub record State : Type 0 where
 
 -- a run with so many units and some variables set, and nothing done yet
 abbrev pub fresh : ℕ → Overlay Val → State
-fresh limit vs = record { variables = vs; memory = []; pending = none; budget = record { left = limit; entered = 0; recorded = 0 }; steps = [] }
+fresh limit vs = record { variables = vs; memory = []; pending = None; budget = record { left = limit; entered = 0; recorded = 0 }; steps = [] }
 
 -- ---- what each operation gives, and the state after it
 

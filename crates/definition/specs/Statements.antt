@@ -1,6 +1,5 @@
 -- What a statement of a block does (the Rust's `walk`, its inner loop). Assumes nothing.
-use Rattle.std.specs.Prelude.{Bool, true, false, ◌&&◌, List, [], ℕ, get_or, eqb}
-use Rattle.std.proofs.Math.Option.{Option, none, some}
+use Rattle.std.specs.Prelude.{Bool, true, false, ◌&&◌, List, [], ℕ, get_or, eqb, Option, None, Some}
 use Rattle.value.specs.declared.Val.{Val}
 use Rattle.spelling.specs.Spelling.{type_of}
 use Rattle.value.specs.Value.{cast_to}
@@ -26,8 +25,8 @@ Outcome = Did × Option Stop
 
 -- a step's note is its own, else the one that a call left
 abbrev pub note_of : Note → Pending → Note
-note_of no_note none = no_note
-note_of no_note (some taken) = not_followed taken
+note_of no_note None = no_note
+note_of no_note (Some taken) = not_followed taken
 note_of (fields_written a n) p = fields_written a n
 note_of (value_written a v) p = value_written a v
 note_of result_unknown p = result_unknown
@@ -36,7 +35,7 @@ note_of (not_followed taken) p = not_followed taken
 -- what ends a statement short is the run's stop, at its address
 abbrev pub outcome_of : Option ℕ → End Outcome → Outcome
 outcome_of at (gave o) = o
-outcome_of at (stopped x) = (did no_note, some (Unknown at x))
+outcome_of at (stopped x) = (did no_note, Some (Unknown at x))
 
 module _ (P : Program) where
   abbrev pub name_of : ℕ → List ℕ
@@ -51,8 +50,8 @@ module _ (P : Program) where
 
   -- `return;` and `return value;`
   unfoldable pub returning : Terms → Act Outcome
-  returning no_terms = done (did no_note, some (Returned none))
-  returning (more_terms t ts) = eval t >>= λ v. done (did no_note, some (Returned (some (returned_as v))))
+  returning no_terms = done (did no_note, Some (Returned None))
+  returning (more_terms t ts) = eval t >>= λ v. done (did no_note, Some (Returned (Some (returned_as v))))
 
   abbrev pub is_named : Term → List ℕ → Bool
   is_named t name = is Intrinsic t && same (name_of (node t).ref) name
@@ -68,17 +67,17 @@ module _ (P : Program) (E : Env) where
       elim (is Return t) [
         | true ↦ returning P (kids t)
         | false ↦ elim (is_named P t (text "__builtin_unreachable")) [
-          | true ↦ done (did no_note, some (NoReturn at))
+          | true ↦ done (did no_note, Some (NoReturn at))
           | false ↦ elim (is_halted P t) [
-            | true ↦ done (did no_note, some (Halted at (node (kid 0 (kids t))).value))
-            | false ↦ execute E t >>= λ d. done (d, none)
+            | true ↦ done (did no_note, Some (Halted at (node (kid 0 (kids t))).value))
+            | false ↦ execute E t >>= λ d. done (d, None)
           ]
         ]
       ]
 
   -- one statement of block b: it is a step, whatever comes of it
   unfoldable pub run_statement : ℕ → Statement → Act (Option Stop)
-  run_statement b s = leave none (do
+  run_statement b s = leave None (do
     e ← try (outcome s.address (look E s.root))
     p ← pending done
     let o = outcome_of s.address e

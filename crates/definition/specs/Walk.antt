@@ -1,8 +1,6 @@
 -- The walk over the blocks, one unit at a time, and the run of a routine (document 01, "Values, then the walk"; the Rust's `walk` and `run_with`).
 -- Assumes nothing.
-use Rattle.std.specs.Prelude.{Bool, true, false, List, [], ◌∷◌, ◌++◌, ℕ, zero, suc, length, get_or, ltb, eqb}
-use Rattle.std.proofs.Math.Option.{Option, none, some}
-use Rattle.std.proofs.Math.ListN.{get_elem?}
+use Rattle.std.specs.Prelude.{Bool, true, false, List, [], ◌∷◌, ◌++◌, ℕ, zero, suc, length, get_or, ltb, eqb, Option, None, Some, slice_get}
 use Rattle.value.specs.declared.Ty.{Ty}
 use Rattle.value.specs.declared.Val.{Val}
 use Rattle.value.specs.Width.{residue}
@@ -30,13 +28,13 @@ pub data Next : Type 0 where
 
 -- the last statement's address, which a terminator without one takes
 unfoldable pub last_address : List Statement → Option ℕ
-last_address [] = none
+last_address [] = None
 last_address (s ∷ []) = s.address
 last_address (s ∷ t ∷ ss) = last_address (t ∷ ss)
 
 abbrev pub address_or : Option ℕ → List Statement → Option ℕ
-address_or none ss = last_address ss
-address_or (some a) ss = some a
+address_or None ss = last_address ss
+address_or (Some a) ss = Some a
 
 -- a switch's value, extended by its sign bit whatever its sign is, as 64 bits
 abbrev pub extended : Val → ℕ
@@ -51,19 +49,19 @@ module _ (E : Env) where
   -- Branch: the block that is taken for a value other than 0, else the next
   unfoldable pub taking : Tree → ℕ → ℕ → Act ℕ
   taking root taken next = eval (look E root) >>= λ v. elim (number_in v) [
-    | none ↦ fail (branch_unknown (place root))
-    | some n ↦ done (elim (eqb n 0) [ true ↦ next | false ↦ taken ])
+    | None ↦ fail (branch_unknown (place root))
+    | Some n ↦ done (elim (eqb n 0) [ true ↦ next | false ↦ taken ])
   ]
 
   -- Switch
   unfoldable pub choosing : Tree → List Case → Act ℕ
   choosing root cases = eval (look E root) >>= λ v. elim v.known [
     | false ↦ fail (switch_unknown (place root))
-    | true ↦ elim (case_of cases (extended v)) [ none ↦ fail (no_case (extended v)) | some b ↦ done b ]
+    | true ↦ elim (case_of cases (extended v)) [ None ↦ fail (no_case (extended v)) | Some b ↦ done b ]
   ]
 
   unfoldable pub terminate : List Statement → Terminator → Act Next
-  terminate ss returns = done (stops (Returned none))
+  terminate ss returns = done (stops (Returned None))
   terminate ss (goto b) = done (goes (before b))
   terminate ss (branch at root taken next) = try (taking root taken next) >>= λ e. done (left_to (address_or at ss) e)
   terminate ss (switch at root cases) = try (choosing root cases) >>= λ e. done (left_to (address_or at ss) e)
@@ -77,8 +75,8 @@ module _ (E : Env) where
 
   -- after statement k: its stop, if it makes one
   abbrev pub onward : ℕ → Block → ℕ → Option Stop → Act Next
-  onward b block k none = settle b block (suc k)
-  onward b block k (some s) = done (stops s)
+  onward b block k None = settle b block (suc k)
+  onward b block k (Some s) = done (stops s)
 
 -- the block that a place is in
 abbrev pub block_of : Place → ℕ
@@ -88,22 +86,22 @@ block_of (within b k) = b
 module _ (P : Program) (E : Env) where
   -- what one unit buys: a block is entered (true), or a statement run. None where there is no such block or statement
   unfoldable pub unit : Place → Option (Bool × Act Next)
-  unit (before b) = elim (get_elem? P.blocks b) [ none ↦ none | some block ↦ some (true, settle E b block 0) ]
-  unit (within b k) = elim (get_elem? P.blocks b) [
-    | none ↦ none
-    | some block ↦ elim (get_elem? block.statements k) [
-      | none ↦ none
-      | some s ↦ some (false, run_statement P E b s >>= onward E b block k)
+  unit (before b) = elim (slice_get P.blocks b) [ None ↦ None | Some block ↦ Some (true, settle E b block 0) ]
+  unit (within b k) = elim (slice_get P.blocks b) [
+    | None ↦ None
+    | Some block ↦ elim (slice_get block.statements k) [
+      | None ↦ None
+      | Some s ↦ Some (false, run_statement P E b s >>= onward E b block k)
     ]
   ]
 
   -- "a missing block stops NoBlock before the budget is looked at; each block and each statement then costs one unit": a stop, or the place where the
   -- units are spent. The number is at least the units left (proofs/Fuel)
   unfoldable pub walk : ℕ → Place → Act Next
-  walk zero p = elim (unit p) [ none ↦ done (stops (NoBlock (block_of p))) | some u ↦ done (goes p) ]
+  walk zero p = elim (unit p) [ None ↦ done (stops (NoBlock (block_of p))) | Some u ↦ done (goes p) ]
   walk (suc most) p = elim (unit p) [
-    | none ↦ done (stops (NoBlock (block_of p)))
-    | some u ↦ spend u.0 (λ paid. elim paid [
+    | None ↦ done (stops (NoBlock (block_of p)))
+    | Some u ↦ spend u.0 (λ paid. elim paid [
       | false ↦ done (goes p)
       | true ↦ u.1 >>= λ n. elim n [ stops s ↦ done (stops s) | goes q ↦ walk most q ]
     ])
@@ -126,10 +124,10 @@ walk_all P E limit = walk_from P E limit >>= λ n. done (stop_at limit n)
 
 -- the type of a name among variables, the last of that name
 unfoldable pub declared_in : List (List ℕ) → List Variable → ℕ → Option Ty
-declared_in types [] x = none
+declared_in types [] x = None
 declared_in types (v ∷ vs) x = elim (declared_in types vs x) [
-  | some t ↦ some t
-  | none ↦ elim (eqb v.name x) [ true ↦ some (type_of (get_or types v.type [])) | false ↦ none ]
+  | Some t ↦ Some t
+  | None ↦ elim (eqb v.name x) [ true ↦ Some (type_of (get_or types v.type [])) | false ↦ None ]
 ]
 
 -- each parameter has its argument cast to its type; one without an argument is unknown. The last of a name stands
@@ -144,13 +142,13 @@ unset_added types [] m = m
 unset_added types (v ∷ vs) m = unset_added types vs (added_to (find v.name m))
   where
     added_to : Option Val → Overlay Val
-    added_to (some x) = m
-    added_to none = store v.name (unknown_val (type_of (get_or types v.type []))) m
+    added_to (Some x) = m
+    added_to None = store v.name (unknown_val (type_of (get_or types v.type []))) m
 
 -- a call is asked of the world if the depth, 0, is below its limit, and the world "answers none"
 unfoldable pub follow_at : (left : ℕ) → (name address : ℕ) → List Val → Act (Option Val)
-follow_at zero name address vs = done none
-follow_at (suc left) name address vs = ask call_to (record { name = name; address = address; depth = 1; values = vs }) (λ _. done none)
+follow_at zero name address vs = done None
+follow_at (suc left) name address vs = ask call_to (record { name = name; address = address; depth = 1; values = vs }) (λ _. done None)
 
 abbrev pub env_of : Program → (depth : ℕ) → Env
 env_of P depth = record { types = P.types; declared = declared_in P.types (P.parameters ++ P.locals); follow = follow_at depth }

@@ -7,7 +7,13 @@ use Prim.Native.Nat.{ℕ, zero, suc, ◌≤◌, ◌<◌}
 use native.Mathlib.Omega.{arith}
 use lib.ListN.{length, replicate}
 use lib.Seq.{sets}
-use Rattle.files.specs.Refusal.{refusal}
+use Rattle.std.specs.Prelude.{Result}
+use Rattle.std.specs.Result.{IsErrAnd}
+use Rattle.std.proofs.lemmas.Result.{err_from_is_err_and}
+use Rattle.files.specs.declared.refusal.Refusal.{Refusal}
+use Rattle.files.specs.declared.refusal.Refusal.TheVariants.{Workspace}
+use Rattle.files.specs.Refusal.{refusal, refusal_number, refused, or_else}
+use Rattle.files.proofs.RefusalLaws.{or_refusal}
 use Rattle.definition.specs.Statements as statements
 use Rattle.definition.specs.Record.{Ran, steps_body, record_bytes}
 use Rattle.definition.specs.Run.{ran, record_of, address_limit, workspace_needed}
@@ -25,7 +31,7 @@ use Rattle.passes.specs.Passing.{full_of, FirstPassed, FirstPassedIf, FirstPasse
 use Rattle.passes.specs.Writing.{Measured, fits_in, Exact, Ended, Completes}
 use Rattle.passes.proofs.Arrival.{tabled_kept, EndsWith, full_end, whole_end, kept_whole}
 use Rattle.passes.proofs.Measures.{few_addresses, exact, too_long}
-use Rattle.emulate.specs.Answers.{AnswersFrom}
+use Rattle.emulate.specs.Answers.{AnswersFrom, length_in}
 
 -- ---- what the first pass came to
 
@@ -55,19 +61,19 @@ module _ (R : Ran) (record₀ w₀ record₁ w : List ℕ) (limit : ℕ) (stop :
 same_zeros : (s t : List ℕ) → length s ≡ length t → zeroed s ≡ zeroed t
 same_zeros s t e = ap (λ (n : ℕ). replicate n 0) e
 
-module _ (routine world call record₀ workspace₀ record₁ workspace₁ record₂ workspace₂ : List ℕ) (n m k : ℕ) (lr : length record₁ ≡ length record₀) (lw : length workspace₁ ≡ length workspace₀)
-    (c : (n ≡ m) × (k ≡ 0) × (record₂ ≡ zeroed record₁) × (workspace₂ ≡ zeroed workspace₁)) where
-  cleared_as : Answered routine world call record₀ workspace₀ m 0 (zeroed record₀) (zeroed workspace₀) → Answered routine world call record₀ workspace₀ n k record₂ workspace₂
+module _ (routine world call record₀ workspace₀ record₁ workspace₁ record₂ workspace₂ : List ℕ) (m : ℕ) (lr : length record₁ ≡ length record₀) (lw : length workspace₁ ≡ length workspace₀)
+    (c : (record₂ ≡ zeroed record₁) × (workspace₂ ≡ zeroed workspace₁)) where
+  cleared_as : Answered routine world call record₀ workspace₀ m 0 (zeroed record₀) (zeroed workspace₀) → Answered routine world call record₀ workspace₀ m 0 record₂ workspace₂
   cleared_as a =
-      rw (c.0, c.1, c.2, c.3, same_zeros record₁ record₀ lr, same_zeros workspace₁ workspace₀ lw) a
+      rw (c.0, c.1, same_zeros record₁ record₀ lr, same_zeros workspace₁ workspace₀ lw) a
 
 module _ (routine world call record₀ workspace₀ : List ℕ) (ok : refusal routine world call ≡ 0) (room : workspace_needed ≤ length workspace₀) (w₀ record₁ workspace₁ : List ℕ) (limit : ℕ) (stop : Stop) (a : Counts)
     (b : Bool) (told : b ≡ full_of stop) (p : FirstPasses (ran routine world call) record₀ w₀ (stop_end limit stop) record₁ workspace₁ a) where
   -- 21
-  pub answers_21 : b ≡ true → (n k : ℕ) (record₂ workspace₂ : List ℕ) → length record₁ ≡ length record₀ → length workspace₁ ≡ length workspace₀
-      → (n ≡ 21) × (k ≡ 0) × (record₂ ≡ zeroed record₁) × (workspace₂ ≡ zeroed workspace₁) → Answered routine world call record₀ workspace₀ n k record₂ workspace₂
-  answers_21 t n k record₂ workspace₂ lr lw c =
-      cleared_as routine world call record₀ workspace₀ record₁ workspace₁ record₂ workspace₂ n 21 k lr lw c
+  pub answers_21 : b ≡ true → (record₂ workspace₂ : List ℕ) → length record₁ ≡ length record₀ → length workspace₁ ≡ length workspace₀
+      → (record₂ ≡ zeroed record₁) × (workspace₂ ≡ zeroed workspace₁) → Answered routine world call record₀ workspace₀ 21 0 record₂ workspace₂
+  answers_21 t record₂ workspace₂ lr lw c =
+      cleared_as routine world call record₀ workspace₀ record₁ workspace₁ record₂ workspace₂ 21 lr lw c
       (cleared_by_addresses routine world call record₀ workspace₀ ok room (over_addresses (ran routine world call) record₀ w₀ record₁ workspace₁ limit stop a b told p t))
 
   -- what comes after the first pass
@@ -94,11 +100,11 @@ module _ (routine world call record₁ workspace₁ : List ℕ) (ok : refusal ro
   over_22 record₀ workspace₀ r e (inl h) = cleared_by_length routine world call record₀ workspace₀ ok r few h
   over_22 record₀ workspace₀ r e (inr h) = cleared_by_buffer routine world call record₀ workspace₀ ok r few (omega (arith, h, e))
 
-  pub answers_22 : not d ≡ true → (n k : ℕ) (record₂ workspace₂ : List ℕ) → (n ≡ 22) × (k ≡ 0) × (record₂ ≡ zeroed record₁) × (workspace₂ ≡ zeroed workspace₁)
-      → AnswersFrom routine world call record₁ workspace₁ n k record₂ workspace₂
-  answers_22 y n k record₂ workspace₂ c = record {
+  pub answers_22 : not d ≡ true → (record₂ workspace₂ : List ℕ) → (record₂ ≡ zeroed record₁) × (workspace₂ ≡ zeroed workspace₁)
+      → AnswersFrom routine world call record₁ workspace₁ 22 0 record₂ workspace₂
+  answers_22 y record₂ workspace₂ c = record {
     answered = λ record₀ workspace₀ lr lw h.
-        cleared_as routine world call record₀ workspace₀ record₁ workspace₁ record₂ workspace₂ n 22 k lr lw c
+        cleared_as routine world call record₀ workspace₀ record₁ workspace₁ record₂ workspace₂ 22 lr lw c
         (over_22 record₀ workspace₀ (omega (arith, lw)) lr (too_long R workspace₁ a l (length record₁) f.holds m d fit y));
   }
 
@@ -120,15 +126,20 @@ module _ (routine world call record₁ workspace₁ : List ℕ) (ok : refusal ro
           rw (e ∙ is_exact.whole, c.written record₀ (g h), z, same_zeros workspace₂ workspace₀ (lk ∙ lw)) (ran_whole routine world call record₀ workspace₀ ok (omega (arith, lw)) few h s);
     }
 
--- ---- nothing is touched
+-- ---- nothing is touched: the exits by `?`
 
-module _ (routine world call record₀ workspace₀ : List ℕ) (n : ℕ) (e : n ≡ refusal routine world call) where
-  pub answers_input : (n ≡ 0 → ⊥) → Answered routine world call record₀ workspace₀ n 0 record₀ workspace₀
-  answers_input h = go n e h
+module _ (routine world call record₀ workspace₀ : List ℕ) (r : Result ℕ Refusal) (e : Refusal) (left : IsErrAnd r (λ x. x ≡ e)) where
+  exits_as : (n : ℕ) → refusal_number e ≡ n → Answered routine world call record₀ workspace₀ n 0 record₀ workspace₀ → Answered routine world call record₀ workspace₀ (refused r) (length_in r) record₀ workspace₀
+  exits_as n h a = let p = err_from_is_err_and r left in rw (p.1, p.2, h) a
+
+  -- 1 to 9
+  pub answers_input : refusal routine world call ≡ refusal_number e → Answered routine world call record₀ workspace₀ (refused r) (length_in r) record₀ workspace₀
+  answers_input h = go (refusal_number e) refl (or_refusal e 1)
     where
-      go : (m : ℕ) → m ≡ refusal routine world call → (m ≡ 0 → ⊥) → Answered routine world call record₀ workspace₀ m 0 record₀ workspace₀
-      go zero d f = absurd (f refl)
-      go (suc m) d f = refused_by_input routine world call record₀ workspace₀ m (sym d)
+      go : (m : ℕ) → refusal_number e ≡ m → m ≡ or_else m 1 → Answered routine world call record₀ workspace₀ (refused r) (length_in r) record₀ workspace₀
+      go zero d f = absurd (omega (arith, f))
+      go (suc m) d f = exits_as (suc m) d (refused_by_input routine world call record₀ workspace₀ m (h ∙ d))
 
-  pub answers_20 : n ≡ 0 → length workspace₀ < workspace_needed → Answered routine world call record₀ workspace₀ 20 0 record₀ workspace₀
-  answers_20 z h = refused_by_workspace routine world call record₀ workspace₀ (sym e ∙ z) h
+  -- 20
+  pub answers_20 : refusal routine world call ≡ 0 → e ≡ Workspace → length workspace₀ < workspace_needed → Answered routine world call record₀ workspace₀ (refused r) (length_in r) record₀ workspace₀
+  answers_20 ok w l = exits_as 20 (ap refusal_number w) (refused_by_workspace routine world call record₀ workspace₀ ok l)

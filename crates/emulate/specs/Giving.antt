@@ -1,15 +1,25 @@
 -- What `constant_value` gives, from what the evaluation came to. Assumes nothing.
-use Rattle.std.specs.Prelude.{cond, ℕ, eqb}
+use Rattle.std.specs.Prelude.{List, ℕ, Option, None, Result, Ok, Err}
+use Rattle.std.specs.Bool.{then_some}
 use Rattle.value.specs.declared.Val.{Val}
-use Rattle.definition.specs.Fields.{no_val}
-use Rattle.hosting.specs.declared.Outcome.{Outcome}
-use Rattle.hosting.specs.declared.Outcome.TheVariants.{Is, Ends}
+use Rattle.files.specs.declared.refusal.Refusal.{Refusal}
+use Rattle.files.specs.declared.refusal.Refusal.TheVariants.{Addresses}
+use Rattle.files.specs.Refusal.{refused}
+use Rattle.definition.specs.Answered.{val_or, ConstantAnswered}
+use Rattle.hosting.specs.declared.Short.{Short}
+use Rattle.hosting.specs.declared.Short.TheVariants.{Full, Why}
 
--- the number that `constant_value` gives, and the value, known or none
-unfoldable pub refusal_of : Outcome → ℕ
-refusal_of (Is v) = 0
-refusal_of (Ends s) = cond (eqb s.reason 0) 21 0
+-- the value, if it is known, or what refuses the call
+abbrev pub answer_of : Result Val Short → Result (Option Val) Refusal
+answer_of (Ok v) = Ok (then_some v.known v)
+answer_of (Err Full) = Err Addresses
+answer_of (Err (Why r n)) = Ok None
 
-unfoldable pub value_of : Outcome → Val
-value_of (Is v) = cond v.known v no_val
-value_of (Ends s) = no_val
+-- the fields of a value, all 0 where there is none
+abbrev pub value_in : Result (Option Val) Refusal → Val
+value_in (Ok v) = val_or v
+value_in (Err r) = val_or None
+
+-- `constant_value` with that as its answer
+abbrev pub ConstantGiven : List ℕ → ℕ → List ℕ → Result (Option Val) Refusal → List ℕ → Type 0
+ConstantGiven routine node workspace r workspace' = let v = value_in r in ConstantAnswered routine node workspace (refused r) v.known v.signed v.bits v.number workspace'

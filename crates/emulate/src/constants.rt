@@ -1,17 +1,35 @@
 // What a constant expression's evaluation comes to, as a caller is given it.
-ghost use Rattle.std.specs.Prelude.{◌≡◌};
+ghost use Rattle.std.specs.Prelude.{◌≡◌, false};
 ghost use Rattle.definition.specs.Answered.{val_of};
-ghost use Rattle.definition.specs.Fields.{no_val};
-ghost use Rattle.hosting.specs.declared.Outcome.TheVariants.{Is, Ends};
-ghost use Rattle.emulate.specs.Giving.{refusal_of, value_of};
+ghost use Rattle.files.specs.Refusal.{refused};
+ghost use Rattle.emulate.specs.Giving.{answer_of, value_in};
 
 use super::Constant;
-use hosting::{Outcome, Short};
+use files::refusal::Refusal;
+use hosting::Short;
 use value::Val;
 
+impl From<Result<Option<Val>, Refusal>> for Constant {
+    ghost from_gives = { λ r k. (k.refusal ≡ refused r) × (val_of k.known k.signed k.bits k.number ≡ value_in r) };
+
+    fn from(r: Result<Option<Val>, Refusal>) -> Constant {
+        match r {
+            Ok(Some(v)) => Constant {
+                refusal: 0,
+                known: v.known,
+                signed: v.signed,
+                bits: v.bits,
+                number: v.number,
+            },
+            Ok(None) => no_value(0),
+            Err(refusal) => no_value(refusal.into()),
+        }
+    }
+}
+
 // A number, and no value.
-pub fn no_constant(refusal: u32) -> Constant
-    ensures { (result.refusal ≡ refusal) × (val_of result.known result.signed result.bits result.number ≡ no_val) }
+fn no_value(refusal: u32) -> Constant
+    ensures { result ≡ record { refusal = refusal; known = false; signed = false; bits = 0; number = 0 } }
 {
     Constant {
         refusal,
@@ -22,35 +40,14 @@ pub fn no_constant(refusal: u32) -> Constant
     }
 }
 
-// A value, if it is known.
-fn known_only(v: Val) -> Constant
-    ensures { (result.refusal ≡ 0) × (val_of result.known result.signed result.bits result.number ≡ value_of (Is v)) }
-{
-    if !v.known {
-        return no_constant(0);
-    }
-    Constant {
-        refusal: 0,
-        known: true,
-        signed: v.signed,
-        bits: v.bits,
-        number: v.number,
-    }
-}
-
-// 21 where the workspace had no room for another written address.
-fn if_full(s: Short) -> u32
-    ensures { result ≡ refusal_of (Ends s) }
-{
-    if s.reason == Short::FULL { 21 } else { 0 }
-}
-
-// What an evaluation comes to.
-pub fn constant_of(outcome: Outcome) -> Constant
-    ensures { (result.refusal ≡ refusal_of outcome) × (val_of result.known result.signed result.bits result.number ≡ value_of outcome) }
+// The value that an evaluation gave, if it is known. One that ended short has none, and is refused where the workspace had no room for another
+// written address.
+pub fn known_only(outcome: Result<Val, Short>) -> Result<Option<Val>, Refusal>
+    ensures { result ≡ answer_of outcome }
 {
     match outcome {
-        Outcome::Is(v) => known_only(v),
-        Outcome::Ends(s) => no_constant(if_full(s)),
+        Ok(v) => Ok(v.known.then_some(v)),
+        Err(Short::Full) => Err(Refusal::Addresses),
+        Err(Short::Why(_, _)) => Ok(None),
     }
 }

@@ -1,5 +1,5 @@
 -- Loops over a body: items back to back (`read_from`), and what holds of each number (`every`). Assumes nothing.
-use mathlib.Core.Path.{◌≡◌, refl, sym, ◌∙◌}
+use mathlib.Core.Path.{◌≡◌, refl, sym, ap, ◌∙◌}
 use mathlib.Core.Bool.{Bool, true, false, not, cond, ◌&&◌, and-false}
 use Prim.Native.Nat.{ℕ, zero, suc, ◌+◌, ◌-◌, ◌≤◌, ◌<◌}
 use native.Mathlib.Nat.{not-suc-le-zero}
@@ -7,6 +7,9 @@ use native.Mathlib.Numerals.{add-one}
 use native.Mathlib.Omega.{arith}
 use borrow.Author.Tests.{le-leb, lt-leb, leb-false, ltb-true, ltb-false, not-true, not-false}
 use lib.Dec.{leb, ltb}
+use Rattle.std.specs.Prelude.{None, Some, is_some}
+use Rattle.files.specs.Bytes.{one_less}
+use Rattle.files.specs.World.{unless_zero}
 use Rattle.files.specs.Items.{Items, past, reading, read_from, every}
 
 module _ {S : Type 0} (R : Items S) (e : ℕ) where
@@ -48,6 +51,54 @@ module _ {S : Type 0} (R : Items S) (e : ℕ) (s : S) (i b : ℕ) (h : b ≡ rea
 
   pub goes_on : (k : ℕ) → i < e → k ≡ R.item s i → (k ≡ 0 → ⊥) → b ≡ read_from R e (R.next s i k) (i + k)
   goes_on k l z n = h ∙ goes R e s i k l (sym z) n
+
+-- items that are read alike give the same
+module _ {S S' : Type 0} (R : Items S) (R' : Items S') (of : S → S') (item : (s : S) (i : ℕ) → R.item s i ≡ R'.item (of s) i)
+    (next : (s : S) (i k : ℕ) → of (R.next s i k) ≡ R'.next (of s) i k) (ends_as : (s : S) → R.last s ≡ R'.last (of s)) (e : ℕ) where
+  pub same_reading : (f : ℕ) (s : S) (i : ℕ) → reading R e f s i ≡ reading R' e f (of s) i
+  unfolding reading
+  same_reading zero s i = refl
+  same_reading (suc f) s i = rw (item s i, ends_as s) (ap (cond (leb e i) (R'.last (of s))) (go (R'.item (of s) i) (same_reading f)))
+    where
+      go : (k : ℕ) → ((s : S) (i : ℕ) → reading R e f s i ≡ reading R' e f (of s) i) → past R (reading R e f) s i k ≡ past R' (reading R' e f) (of s) i k
+      go zero h = refl
+      go (suc k) h = rw (← next s i (suc k)) (h (R.next s i (suc k)) (i + suc k))
+
+  pub same_read : (s : S) → read_from R e s 0 ≡ read_from R' e (of s) 0
+  unfolding read_from
+  same_read s = same_reading (suc e) s 0
+
+-- how many there are, by 1 more than that, and back
+pub none_less : (t : ℕ) → 0 ≡ t → None ≡ one_less t
+none_less t e = rw (← e)
+
+pub some_less : (n t : ℕ) → n + 1 ≡ t → Some n ≡ one_less t
+some_less n t e = rw (← e, add-one)
+
+pub one_less_none : (t : ℕ) → None ≡ one_less t → t ≡ 0
+one_less_none zero e = refl
+one_less_none (suc t) e = cc
+
+pub one_less_some : (n t : ℕ) → Some n ≡ one_less t → t ≡ suc n
+one_less_some n zero e = cc
+one_less_some n (suc t) e = cc
+
+pub there_are : (t : ℕ) → is_some (one_less t) ≡ leb 1 t
+there_are zero = refl
+there_are (suc t) = sym (le-leb 1 (suc t) (omega arith))
+
+-- the same of a length
+pub some_there : (n t : ℕ) → 1 ≤ n → n ≡ t → Some n ≡ unless_zero t
+some_there n zero h e = absurd (omega arith)
+some_there n (suc t) h e = ap Some e
+
+pub zero_none : (t : ℕ) → None ≡ unless_zero t → t ≡ 0
+zero_none zero e = refl
+zero_none (suc t) e = cc
+
+pub some_length : (n t : ℕ) → Some n ≡ unless_zero t → n ≡ t
+some_length n zero e = cc
+some_length n (suc t) e = cc
 
 -- a loop over numbers has every one below its own behind it
 module _ (P : ℕ → Bool) where

@@ -1,16 +1,21 @@
 -- What the tests of a text, of a name and of a type show. Assumes nothing.
 use mathlib.Core.Path.{◌≡◌, refl, sym, ◌∙◌}
-use mathlib.Core.Bool.{Bool, true, false, not, ◌&&◌, and-true, and-false}
+use mathlib.Core.Bool.{Bool, true, false, not, ◌&&◌, ◌||◌, and-true}
 use mathlib.Core.List.{List, []}
-use Prim.Native.Nat.{ℕ, ◌+◌, ◌-◌, ◌≤◌, ◌<◌}
+use Prim.Native.Nat.{ℕ, suc, ◌+◌, ◌-◌, ◌≤◌, ◌<◌}
 use native.Mathlib.Numerals.{add-one}
 use native.Mathlib.Omega.{arith}
-use borrow.Author.Tests.{le-leb, lt-leb, lt-ltb, le-ltb, ltb-true, ltb-false, eq-eqb, ne_eqb, not-true, not-false}
+use borrow.Author.Tests.{le-leb, lt-ltb, le-ltb, ltb-true, ltb-false, eq-eqb, ne_eqb}
 use lib.Dec.{ltb, leb}
-use lib.ListN.{length, get_or, drop, drop_of_length-le}
+use lib.ListN.{length, get_or, drop, drop_of_length-le, length-take, length-drop}
 use lib.Seq.{drop-cons}
-use Rattle.files.specs.Bytes.{part}
-use Rattle.files.specs.Names.{printable, before, last, name_at, type_at}
+use Rattle.std.specs.Prelude.{None, Some}
+use Rattle.files.specs.Bytes.{part, one_less}
+use Rattle.files.specs.Names.{printable, before, last, name_at, name_items, names_in, type_at, type_items, types_in, text_at, text_items, counted}
+use Rattle.files.specs.Refusal.{names_of, types_of}
+use Rattle.files.specs.declared.names.Texts.{Texts}
+use Rattle.files.specs.declared.names.TheConstants.Texts.{NAMES, TYPES}
+use Rattle.files.proofs.ItemLaws.{same_read, one_less_none, one_less_some}
 
 -- at a place of a loop over the bytes: the answer b is that of those before and of what is left of the text
 module _ (lo hi : ℕ) (s : List ℕ) (i : ℕ) (b ok : Bool) (e : b ≡ (ok && printable lo hi (drop i s))) where
@@ -54,57 +59,42 @@ module _ (s t : List ℕ) (i : ℕ) (b : Bool) (e : b ≡ before (drop i s) (dro
   before_on h g l u =
       e ∙ rw (add-one, drop-cons s i 0 h, drop-cons t i 0 g, le-ltb (get_or s i 0) (get_or t i 0) l, eq-eqb (get_or s i 0) (get_or t i 0) (omega arith))
 
--- ---- a name
+-- ---- a text
 
-pub name_many : (b : List ℕ) (n p q i : ℕ) → 512 ≤ n → 0 ≡ name_at b (last n p q) i
-unfolding name_at
-name_many b n p q i h = simp (le-ltb _ _ h)
+pub length_part : (b : List ℕ) (i k : ℕ) → k ≤ length b - i → length (part i (i + k) b) ≡ k
+length_part b i k h = omega (arith, length-take (i + k - i) (drop i b), length-drop i b)
 
-module _ (b : List ℕ) (n p q i k : ℕ) (e : k ≡ get_or b i 0) where
-  pub name_short : k < 1 → 0 ≡ name_at b (last n p q) i
-  unfolding name_at
-  name_short h = simp (← e, lt-leb _ _ h, and-false)
+pub text_good : (t : Texts) (b : List ℕ) (n : ℕ) (prior : List ℕ) (i k : ℕ) → k ≡ get_or b i 0 → n < 512 → t.shortest ≤ k → k ≤ 64 → k ≤ length b - (i + 1)
+    → printable t.lowest 0x7e (part (i + 1) (i + 1 + k) b) ≡ true → (t.ascend ≡ true → before prior (part (i + 1) (i + 1 + k) b) ≡ true) → text_at t b n prior i ≡ k + 1
+unfolding text_at
+text_good t b n prior i k e h₁ h₂ h₃ h₄ h₅ h₆ =
+    simp (← e, lt-ltb _ _ h₁, le-leb _ _ h₂, le-leb _ _ h₃, le-leb _ _ h₄, h₅, ordered t.ascend _ h₆)
+  where
+    ordered : (a p : Bool) → (a ≡ true → p ≡ true) → (not a || p) ≡ true
+    ordered true p h = h refl
+    ordered false p h = refl
 
-  pub name_long : 64 < k → 0 ≡ name_at b (last n p q) i
-  unfolding name_at
-  name_long h = simp (← e, lt-leb _ _ h, and-false)
+-- ---- names and types are such texts
 
-  pub name_past : length b - (i + 1) < k → 0 ≡ name_at b (last n p q) i
-  unfolding name_at
-  name_past h = simp (← e, lt-leb _ _ h, and-false)
+pub counted_names : (b : List ℕ) → counted NAMES b ≡ names_in b
+unfolding counted names_in text_at name_at
+counted_names b = same_read (text_items NAMES b) (name_items b) (λ s. s) (λ s i. refl) (λ s i k. refl) (λ s. refl) (length b) (last 0 0 0)
 
-  pub name_odd : (r : Bool) → r ≡ printable 0x21 0x7e (part (i + 1) (i + 1 + k) b) → not r ≡ true → 0 ≡ name_at b (last n p q) i
-  unfolding name_at
-  name_odd r g h = simp (← e, ← g, not-true r h, and-false)
+pub counted_types : (b : List ℕ) → counted TYPES b ≡ types_in b
+unfolding counted types_in text_at type_at
+counted_types b = same_read (text_items TYPES b) (type_items b) (λ s. s.count) (λ s i. simp (le-leb 0 (get_or b i 0) (omega arith), and-true)) (λ s i k. refl) (λ s. refl) (length b) (last 0 0 0)
 
-  pub name_down : (r : Bool) → r ≡ before (part p q b) (part (i + 1) (i + 1 + k) b) → not r ≡ true → 0 ≡ name_at b (last n p q) i
-  unfolding name_at
-  name_down r g h = simp (← e, ← g, not-true r h, and-false)
+more_than : (n t : ℕ) → t ≡ suc n → (leb 1 t ≡ true) × (t - 1 ≡ n)
+more_than n t e = (le-leb 1 t (omega arith), omega arith)
 
-  pub name_good : n < 512 → 1 ≤ k → k ≤ 64 → k ≤ length b - (i + 1) → (r t : Bool) → r ≡ printable 0x21 0x7e (part (i + 1) (i + 1 + k) b) → not r ≡ false
-      → t ≡ before (part p q b) (part (i + 1) (i + 1 + k) b) → not t ≡ false → k + 1 ≡ name_at b (last n p q) i
-  unfolding name_at
-  name_good h₁ h₂ h₃ h₄ r t g₅ h₅ g₆ h₆ = simp (← e, lt-ltb _ _ h₁, le-leb _ _ h₂, le-leb _ _ h₃, le-leb _ _ h₄, ← g₅, not-false r h₅, ← g₆, not-false t h₆)
+pub no_names : (b : List ℕ) → None ≡ one_less (counted NAMES b) → names_in b ≡ 0
+no_names b e = sym (counted_names b) ∙ one_less_none _ e
 
--- ---- a type
+pub some_names : (b : List ℕ) (n : ℕ) → Some n ≡ one_less (counted NAMES b) → (leb 1 (names_in b) ≡ true) × (names_of b ≡ n)
+some_names b n e = more_than n (names_in b) (sym (counted_names b) ∙ one_less_some n _ e)
 
-pub type_many : (b : List ℕ) (n i : ℕ) → 512 ≤ n → 0 ≡ type_at b n i
-unfolding type_at
-type_many b n i h = simp (le-ltb _ _ h)
+pub no_types : (b : List ℕ) → None ≡ one_less (counted TYPES b) → types_in b ≡ 0
+no_types b e = sym (counted_types b) ∙ one_less_none _ e
 
-module _ (b : List ℕ) (n i k : ℕ) (e : k ≡ get_or b i 0) where
-  pub type_long : 64 < k → 0 ≡ type_at b n i
-  unfolding type_at
-  type_long h = simp (← e, lt-leb _ _ h, and-false)
-
-  pub type_past : length b - (i + 1) < k → 0 ≡ type_at b n i
-  unfolding type_at
-  type_past h = simp (← e, lt-leb _ _ h, and-false)
-
-  pub type_odd : (r : Bool) → r ≡ printable 0x20 0x7e (part (i + 1) (i + 1 + k) b) → not r ≡ true → 0 ≡ type_at b n i
-  unfolding type_at
-  type_odd r g h = simp (← e, ← g, not-true r h, and-false)
-
-  pub type_good : n < 512 → k ≤ 64 → k ≤ length b - (i + 1) → (r : Bool) → r ≡ printable 0x20 0x7e (part (i + 1) (i + 1 + k) b) → not r ≡ false → k + 1 ≡ type_at b n i
-  unfolding type_at
-  type_good h₁ h₃ h₄ r g₅ h₅ = simp (← e, lt-ltb _ _ h₁, le-leb _ _ h₃, le-leb _ _ h₄, ← g₅, not-false r h₅)
+pub some_types : (b : List ℕ) (n : ℕ) → Some n ≡ one_less (counted TYPES b) → (leb 1 (types_in b) ≡ true) × (types_of b ≡ n)
+some_types b n e = more_than n (types_in b) (sym (counted_types b) ∙ one_less_some n _ e)

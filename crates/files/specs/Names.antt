@@ -1,7 +1,8 @@
 -- Names and types (document 01, "The files"). Each gives 1 more than their count, and 0 for a body that is refused. Assumes nothing.
-use Rattle.std.specs.Prelude.{Bool, true, false, ◌&&◌, ◌||◌, List, [], ◌∷◌, ℕ, ◌+◌, ◌-◌, length, get_or, leb, ltb, eqb}
+use Rattle.std.specs.Prelude.{Bool, true, false, not, ◌&&◌, ◌||◌, List, [], ◌∷◌, ℕ, ◌+◌, ◌-◌, length, get_or, leb, ltb, eqb}
 use Rattle.files.specs.Bytes.{only, part}
 use Rattle.files.specs.Items.{Items, read_from}
+use Rattle.files.specs.declared.names.Texts.{Texts}
 
 -- each byte is from lo to hi
 unfoldable pub printable : ℕ → ℕ → List ℕ → Bool
@@ -52,3 +53,21 @@ type_items b = record { item = type_at b; next = λ n i k. n + 1; last = λ n. n
 
 unfoldable pub types_in : List ℕ → ℕ
 types_in b = read_from (type_items b) (length b) 0 0
+
+-- both in one, as the code reads them (proofs/NameLaws.antt: `counted_names`, `counted_types`): the length of the text at i with its length byte, where n came
+-- before it and the last one is `prior`
+unfoldable pub text_at : Texts → List ℕ → ℕ → List ℕ → ℕ → ℕ
+text_at t b n prior i =
+    let k = get_or b i 0 in
+    only (ltb n 512 && leb t.shortest k && leb k 64 && leb k (length b - (i + 1)) && printable t.lowest 0x7e (part (i + 1) (i + 1 + k) b)
+    && (not t.ascend || before prior (part (i + 1) (i + 1 + k) b))) (k + 1)
+
+abbrev pub text_items : Texts → List ℕ → Items Last
+text_items t b = record {
+  item = λ s i. text_at t b s.count (part s.from s.to b) i;
+  next = λ s i k. last (s.count + 1) (i + 1) (i + k);
+  last = λ s. s.count + 1;
+}
+
+unfoldable pub counted : Texts → List ℕ → ℕ
+counted t b = read_from (text_items t b) (length b) (last 0 0 0) 0

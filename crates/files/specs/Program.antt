@@ -1,7 +1,6 @@
 -- A routine file as what it stands for: names, types, head, and blocks of statements, each with its tree (document 01, "The files").
 -- `program_of` is total: what it gives for a file that is not accepted does not matter. Assumes nothing.
-use Rattle.std.specs.Prelude.{true, false, List, [], ◌∷◌, ℕ, zero, suc, ◌+◌, ◌-◌, ◌*◌, ◌/◌, length, get_or, ltb, eqb}
-use Rattle.std.proofs.Math.Option.{Option, none, some}
+use Rattle.std.specs.Prelude.{true, false, List, [], ◌∷◌, ℕ, zero, suc, ◌+◌, ◌-◌, ◌*◌, ◌/◌, length, get_or, ltb, eqb, Option, None, Some}
 use Rattle.layout.specs.Number.{number_at}
 use Rattle.files.specs.FileTable.{body}
 use Rattle.files.specs.Nodes.{kind_of, flag_of, ref_of, width_of, span_of, value_of}
@@ -97,8 +96,8 @@ pub record Case : Type 0 where
 
 -- the first case of a value, both as 64 bits
 unfoldable pub case_of : List Case → ℕ → Option ℕ
-case_of [] n = none
-case_of (c ∷ cs) n = elim (eqb c.value n) [ true ↦ some c.target | false ↦ case_of cs n ]
+case_of [] n = None
+case_of (c ∷ cs) n = elim (eqb c.value n) [ true ↦ Some c.target | false ↦ case_of cs n ]
 
 pub data Terminator : Type 0 where
   returns : Terminator
@@ -142,8 +141,8 @@ variable_at b k = record { name = number_at b (k * 4 + 13) 2; type = number_at b
 
 -- "address flag u8, address u64"
 abbrev pub flagged : ℕ → ℕ → Option ℕ
-flagged zero a = none
-flagged (suc f) a = some a
+flagged zero a = None
+flagged (suc f) a = Some a
 
 -- "Statements: address flag u8, address u64, root u32"
 abbrev pub statement_at : List ℕ → List ℕ → ℕ → Statement

@@ -1,6 +1,6 @@
 -- Which number refuses the three files, and which a routine and a node of `constant_value`; 0 where none does (document 01, "From the input").
 -- Assumes nothing.
-use Rattle.std.specs.Prelude.{Bool, true, false, cond, ◌&&◌, List, [], ◌∷◌, ℕ, zero, suc, ◌+◌, ◌-◌, ◌/◌, length, leb}
+use Rattle.std.specs.Prelude.{Bool, true, false, cond, ◌&&◌, List, [], ◌∷◌, ℕ, zero, suc, ◌+◌, ◌-◌, ◌/◌, length, leb, Result, Ok, Err}
 use Rattle.files.specs.FileTable.{table_ok, body}
 use Rattle.files.specs.Names.{names_in, types_in}
 use Rattle.files.specs.Head.{head_ok}
@@ -8,6 +8,28 @@ use Rattle.files.specs.Nodes.{fields_ok, trees_ok, root_ok}
 use Rattle.files.specs.Blocks.{statements_ok, blocks_in}
 use Rattle.files.specs.Call.{call_body_ok}
 use Rattle.files.specs.WorldFile.{symbols_ok, regions_in}
+use Rattle.files.specs.declared.refusal.Refusal.{Refusal}
+use Rattle.files.specs.declared.refusal.Refusal.TheVariants.{RoutineTable, Names, Types, Head, Fields, Trees, Blocks, World, Call, Workspace, Addresses, Record}
+
+-- "From the input" and "From the state": what each number refuses
+abbrev pub refusal_number : Refusal → ℕ
+refusal_number RoutineTable = 1
+refusal_number Names = 2
+refusal_number Types = 3
+refusal_number Head = 4
+refusal_number Fields = 5
+refusal_number Trees = 6
+refusal_number Blocks = 7
+refusal_number World = 8
+refusal_number Call = 9
+refusal_number Workspace = 20
+refusal_number Addresses = 21
+refusal_number Record = 22
+
+-- the number of a check's refusal; 0 where it has none
+abbrev pub refused : {A : Type 0} → Result A Refusal → ℕ
+refused (Ok a) = 0
+refused (Err r) = refusal_number r
 
 -- how many names, and how many types, an accepted body has
 abbrev pub names_of : List ℕ → ℕ

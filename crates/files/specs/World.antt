@@ -1,6 +1,5 @@
 -- What a world file gives to a question (document 01, "The files", World). A name asked by is read in the routine file. Assumes nothing.
-use Rattle.std.specs.Prelude.{true, false, ◌&&◌, List, [], ◌∷◌, ℕ, zero, suc, ◌+◌, ◌-◌, length, get_or, leb, ltb}
-use Rattle.std.proofs.Math.Option.{Option, none, some}
+use Rattle.std.specs.Prelude.{true, false, ◌&&◌, List, [], ◌∷◌, ℕ, zero, suc, ◌+◌, ◌-◌, length, get_or, leb, ltb, Option, None, Some}
 use Rattle.files.specs.FileTable.{body}
 use Rattle.layout.specs.Format.{Format, number, pair, counted, whole}
 use Rattle.layout.specs.Text.{same}
@@ -22,33 +21,33 @@ region = pair (number 8) (counted 4 (number 1))
 
 -- the symbol whose name has the same bytes
 unfoldable pub symbol_of : List (List ℕ) → List Symbol → List ℕ → Option Symbol
-symbol_of names [] name = none
-symbol_of names (s ∷ ss) name = elim (same (get_or names s.0 []) name) [ true ↦ some s | false ↦ symbol_of names ss name ]
+symbol_of names [] name = None
+symbol_of names (s ∷ ss) name = elim (same (get_or names s.0 []) name) [ true ↦ Some s | false ↦ symbol_of names ss name ]
 
 -- the byte at an address, if a region has it
 unfoldable pub byte_at : List Region → ℕ → Option ℕ
-byte_at [] a = none
+byte_at [] a = None
 byte_at (r ∷ rs) a =
-    elim (leb r.0 a && ltb a (r.0 + length r.1)) [ true ↦ some (get_or r.1 (a - r.0) 0) | false ↦ byte_at rs a ]
+    elim (leb r.0 a && ltb a (r.0 + length r.1)) [ true ↦ Some (get_or r.1 (a - r.0) 0) | false ↦ byte_at rs a ]
 
 -- the unbroken bytes from an address on, at most n
 unfoldable pub bytes_from : List Region → ℕ → ℕ → List ℕ
 bytes_from rs zero a = []
-bytes_from rs (suc n) a = elim (byte_at rs a) [ none ↦ [] | some b ↦ b ∷ bytes_from rs n (suc a) ]
+bytes_from rs (suc n) a = elim (byte_at rs a) [ None ↦ [] | Some b ↦ b ∷ bytes_from rs n (suc a) ]
 
 abbrev pub address_in : Option Symbol → Option ℕ
-address_in none = none
-address_in (some s) = some s.1.1
+address_in None = None
+address_in (Some s) = Some s.1.1
 
 -- a number, where 0 says that there is none
 abbrev pub unless_zero : ℕ → Option ℕ
-unless_zero zero = none
-unless_zero (suc n) = some (suc n)
+unless_zero zero = None
+unless_zero (suc n) = Some (suc n)
 
 -- "`size_of` also for an untold size"
 abbrev pub size_in : Option Symbol → Option ℕ
-size_in none = none
-size_in (some s) = unless_zero s.1.0
+size_in None = None
+size_in (Some s) = unless_zero s.1.0
 
 -- the symbol of name n of the routine
 abbrev pub symbol_for : List ℕ → List ℕ → ℕ → Option Symbol

@@ -1,6 +1,7 @@
 // Statements, and the blocks that they are dealt to.
-ghost use Rattle.std.specs.Prelude.{◌≡◌, ◌&&◌, ◌+◌, ◌-◌, ◌*◌, ◌<◌, ◌≤◌, ◌/◌, leb, length, get_or};
+ghost use Rattle.std.specs.Prelude.{◌≡◌, ◌&&◌, ◌+◌, ◌-◌, ◌*◌, ◌<◌, ◌≤◌, ◌/◌, leb, length, get_or, IfSome};
 ghost use Rattle.layout.specs.Number.{number_at};
+ghost use Rattle.files.specs.World.{unless_zero};
 ghost use Rattle.files.specs.Blocks.{address_ok, statement_ok, statements_ok, terminator_ok, cases_of, block_ok, block_at, blocks_in};
 
 use crate::nodes;
@@ -25,8 +26,8 @@ fn check_statement(nodes: &[u8], b: &[u8], k: usize) -> bool
 {
     let i = k * STATEMENT;
     let flag = b[i];
-    let at = layout::get64(b, i + 1);
-    let root = layout::get32(b, i + 9) as usize;
+    let at = layout::get::<8>(b, i + 1);
+    let root = layout::get::<4>(b, i + 9) as usize;
     is_address(flag, at) & nodes::is_root(nodes, root)
 }
 
@@ -37,12 +38,10 @@ fn check_statements(nodes: &[u8], b: &[u8]) -> bool
         return false;
     }
     let count = b.len() / STATEMENT;
-    let mut k = 0;
-    while k < count {
+    for k in 0..count {
         if !check_statement(nodes, b, k) {
             return false;
         }
-        k += 1;
     }
     true
 }
@@ -74,10 +73,10 @@ fn check_block(nodes: &[u8], b: &[u8], i: usize) -> bool
 {
     let kind = b[i + 2];
     let flag = b[i + 3];
-    let at = layout::get64(b, i + 4);
-    let root = layout::get32(b, i + 12) as usize;
-    let taken = layout::get32(b, i + 16) as usize;
-    let next = layout::get32(b, i + 20) as usize;
+    let at = layout::get::<8>(b, i + 4);
+    let root = layout::get::<4>(b, i + 12) as usize;
+    let taken = layout::get::<4>(b, i + 16) as usize;
+    let next = layout::get::<4>(b, i + 20) as usize;
     let rooted = nodes::is_root(nodes, root);
     is_terminator(kind, flag, at, root, taken, next, rooted)
 }
@@ -90,42 +89,43 @@ fn cases(b: &[u8], i: usize) -> usize
     if b[i + 2] != 3 {
         return 0;
     }
-    layout::get32(b, i + 16) as usize * CASE
+    layout::get::<4>(b, i + 16) as usize * CASE
 }
 
-// The length of the block at i, where `left` statements are not dealt yet; 0 where it is none.
-fn block_at(nodes: &[u8], b: &[u8], left: usize, i: usize) -> usize
+// The length of the block at i, where `left` statements are not dealt yet.
+fn block_at(nodes: &[u8], b: &[u8], left: usize, i: usize) -> Option<usize>
     requires { i < length b.now }
-    ensures { (result ≡ block_at nodes.now b.now left i) × ((i + result ≤ length b.now) × ((result ≡ 0 → ⊥) → (24 ≤ result) × (number_at b.now i 2 ≤ left))) }
+    ensures block { result ≡ unless_zero (block_at nodes.now b.now left i) }
+    ensures within { IfSome result (λ k. (24 ≤ k) × (i + k ≤ length b.now)) }
+    ensures dealt { IfSome result (λ k. number_at b.now i 2 ≤ left) }
 {
     if b.len() - i < BLOCK {
-        return 0;
+        return None;
     }
-    if left < layout::get16(b, i) as usize {
-        return 0;
+    if left < layout::get::<2>(b, i) as usize {
+        return None;
     }
     if !check_block(nodes, b, i) {
-        return 0;
+        return None;
     }
     let more = cases(b, i);
     if b.len() - (i + BLOCK) < more {
-        return 0;
+        return None;
     }
-    more + BLOCK
+    Some(more + BLOCK)
 }
 
-// Whether the blocks are as they must be, and take `count` statements.
+// Whether the blocks are as they must be, and take `count` statements. (A loop by lengths: where the next block is only a block's own cases say.)
 fn check_blocks(nodes: &[u8], count: usize, b: &[u8]) -> bool
     ensures { result ≡ leb 1 (blocks_in nodes.now count b.now) }
 {
     let mut left = count;
     let mut i = 0;
     while i < b.len() {
-        let k = block_at(nodes, b, left, i);
-        if k == 0 {
+        let Some(k) = block_at(nodes, b, left, i) else {
             return false;
-        }
-        left = left - layout::get16(b, i) as usize;
+        };
+        left = left - layout::get::<2>(b, i) as usize;
         i += k;
     }
     left == 0

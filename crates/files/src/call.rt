@@ -29,8 +29,8 @@ impl Limits {
         ensures { (result.steps ≡ (limits_in b.now).steps) × (result.depth ≡ (limits_in b.now).depth) }
     {
         Self {
-            steps: layout::get32(b, 0) as u32,
-            depth: layout::get32(b, 4) as u32,
+            steps: layout::get::<4>(b, 0) as u32,
+            depth: layout::get::<4>(b, 4) as u32,
         }
     }
 }
@@ -59,7 +59,7 @@ pub fn argument(b: &[u8], i: usize) -> u64
     requires { i < length (limits_in b.now).arguments }
     ensures { result ≡ get_or (limits_in b.now).arguments i 0 }
 {
-    layout::get64(b, i * ARGUMENT + FIXED)
+    layout::get::<8>(b, i * ARGUMENT + FIXED)
 }
 
 pub fn check(b: &[u8]) -> bool

@@ -15,8 +15,8 @@ fn check_variable(b: &[u8], k: usize, names: usize, types: usize) -> bool
     requires { k * 4 + 17 ≤ length b.now }
     ensures { result ≡ variable_ok b.now names types k }
 {
-    let name = layout::get16(b, k * VARIABLE + 13) as usize;
-    let kind = layout::get16(b, k * VARIABLE + 15) as usize;
+    let name = layout::get::<2>(b, k * VARIABLE + 13) as usize;
+    let kind = layout::get::<2>(b, k * VARIABLE + 15) as usize;
     (name < names) & (kind < types)
 }
 
@@ -26,8 +26,8 @@ fn check_fixed(b: &[u8], names: usize, types: usize) -> bool
     ensures { result ≡ fixed_ok b.now names types }
 {
     let rest = b.len() - FIXED;
-    let name = layout::get16(b, 0) as usize;
-    let kind = layout::get16(b, 10) as usize;
+    let name = layout::get::<2>(b, 0) as usize;
+    let kind = layout::get::<2>(b, 10) as usize;
     let parameters = b[12];
     (rest % VARIABLE == 0)
         & (name < names)
@@ -46,12 +46,10 @@ pub fn check(b: &[u8], names: usize, types: usize) -> bool
         return false;
     }
     let count = (b.len() - FIXED) / VARIABLE;
-    let mut k = 0;
-    while k < count {
+    for k in 0..count {
         if !check_variable(b, k, names, types) {
             return false;
         }
-        k += 1;
     }
     true
 }

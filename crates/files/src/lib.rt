@@ -1,4 +1,4 @@
-// The three files of a run: what stands in them, and the checks that refuse them by number.
+// The three files of a run: what stands in them, and the checks that refuse them.
 #![tactic(auto)]
 
 pub mod blocks;
@@ -6,12 +6,16 @@ pub mod call;
 pub mod head;
 pub mod names;
 pub mod nodes;
+pub mod refusal;
 pub mod table;
 pub mod trees;
 pub mod world;
 
 ghost use Rattle.std.specs.Prelude.{◌≡◌};
-ghost use Rattle.files.specs.Refusal.{bodies_refusal, routine_refusal, world_ok, call_ok, refusal, constant_refusal};
+ghost use Rattle.files.specs.Refusal.{bodies_refusal, routine_refusal, world_ok, call_ok, refusal, refused, constant_refusal};
+
+use names::Texts;
+use refusal::Refusal;
 
 const ROUTINE: usize = 6;
 
@@ -19,7 +23,7 @@ const WORLD: usize = 3;
 
 const CALL: usize = 1;
 
-// What the six bodies of a routine are refused by: 2 to 7, or 0.
+// Refused by one of the six bodies of a routine.
 fn check_bodies(
     names: &[u8],
     types: &[u8],
@@ -27,39 +31,22 @@ fn check_bodies(
     nodes: &[u8],
     statements: &[u8],
     blocks: &[u8],
-) -> u32
-    ensures { result ≡ bodies_refusal names.now types.now head.now nodes.now statements.now blocks.now }
+) -> Result<(), Refusal>
+    ensures { refused result ≡ bodies_refusal names.now types.now head.now nodes.now statements.now blocks.now }
 {
-    let n = names::count_names(names);
-    if n < 1 {
-        return 2;
-    }
-    let t = names::count_types(types);
-    if t < 1 {
-        return 3;
-    }
-    if !head::check(head, n - 1, t - 1) {
-        return 4;
-    }
-    if !nodes::check(nodes, n - 1, t - 1) {
-        return 5;
-    }
-    if !trees::check(nodes) {
-        return 6;
-    }
-    if !blocks::check(nodes, statements, blocks) {
-        return 7;
-    }
-    0
+    let n = names::count(names, Texts::NAMES).ok_or(Refusal::Names)?;
+    let t = names::count(types, Texts::TYPES).ok_or(Refusal::Types)?;
+    Refusal::Head.unless(head::check(head, n, t))?;
+    Refusal::Fields.unless(nodes::check(nodes, n, t))?;
+    Refusal::Trees.unless(trees::check(nodes))?;
+    Refusal::Blocks.unless(blocks::check(nodes, statements, blocks))
 }
 
-// What a routine file is refused by: 1 to 7, or 0.
-pub fn check_routine(routine: &[u8]) -> u32
-    ensures { result ≡ routine_refusal routine.now }
+// What a routine file is refused by.
+pub fn check_routine(routine: &[u8]) -> Result<(), Refusal>
+    ensures { refused result ≡ routine_refusal routine.now }
 {
-    if !table::check(routine, ROUTINE) {
-        return 1;
-    }
+    Refusal::RoutineTable.unless(table::check(routine, ROUTINE))?;
     let names = table::body(routine, 0);
     let types = table::body(routine, 1);
     let head = table::body(routine, 2);
@@ -91,34 +78,20 @@ pub fn check_call(call: &[u8]) -> bool
     call::check(limits)
 }
 
-// What the three files are refused by: 1 to 9, or 0.
-pub fn check(routine: &[u8], world: &[u8], call: &[u8]) -> u32
-    ensures { result ≡ refusal routine.now world.now call.now }
+// What the three files are refused by.
+pub fn check(routine: &[u8], world: &[u8], call: &[u8]) -> Result<(), Refusal>
+    ensures { refused result ≡ refusal routine.now world.now call.now }
 {
-    let r = check_routine(routine);
-    if r != 0 {
-        return r;
-    }
-    if !check_world(world) {
-        return 8;
-    }
-    if !check_call(call) {
-        return 9;
-    }
-    0
+    check_routine(routine)?;
+    Refusal::World.unless(check_world(world))?;
+    Refusal::Call.unless(check_call(call))
 }
 
-// What a routine file and a node of it are refused by: 1 to 7, 9, or 0.
-pub fn check_constant(routine: &[u8], node: usize) -> u32
-    ensures { result ≡ constant_refusal routine.now node }
+// What a routine file and a node of it are refused by.
+pub fn check_constant(routine: &[u8], node: usize) -> Result<(), Refusal>
+    ensures { refused result ≡ constant_refusal routine.now node }
 {
-    let r = check_routine(routine);
-    if r != 0 {
-        return r;
-    }
+    check_routine(routine)?;
     let nodes = table::body(routine, 3);
-    if !nodes::is_root(nodes, node) {
-        return 9;
-    }
-    0
+    Refusal::Call.unless(nodes::is_root(nodes, node))
 }

@@ -1,33 +1,54 @@
 // Names and types: texts, each behind its length.
-ghost use Rattle.std.specs.Prelude.{◌≡◌, ◌+◌, ◌<◌, ◌≤◌, length, get_or};
-ghost use Rattle.files.specs.Names.{printable, before, last, name_at, names_in, type_at, types_in};
+ghost use Rattle.std.specs.Prelude.{◌≡◌, ◌+◌, ◌<◌, ◌≤◌, length, MatchOption, IfSome};
+ghost use Rattle.files.specs.Bytes.{part, one_less};
+ghost use Rattle.files.specs.Names.{printable, before, text_at, counted};
 
 // The most names, and the most types.
 const MOST: usize = 512;
 
-// The most bytes of one.
+// The most bytes of one, and the highest.
 const LONGEST: usize = 64;
 
-// Whether each byte is from lo to hi. All are looked at, so that the loop is compiled to one over many bytes at once.
+const HIGHEST: u8 = 0x7e;
+
+// What tells names from types: the least length, the lowest byte, and whether each comes after the one before it.
+#[derive(Clone, Copy)]
+pub struct Texts {
+    pub shortest: usize,
+    pub lowest: u8,
+    pub ascend: bool,
+}
+
+impl Texts {
+    pub const NAMES: Texts = Texts {
+        shortest: 1,
+        lowest: 0x21,
+        ascend: true,
+    };
+
+    pub const TYPES: Texts = Texts {
+        shortest: 0,
+        lowest: 0x20,
+        ascend: false,
+    };
+}
+
+// Whether each byte is from lo to hi. All are looked at, so that the loop is compiled to one over many bytes at once: `all` stops at the first that is not.
 fn printed(s: &[u8], lo: u8, hi: u8) -> bool
     ensures { result ≡ printable lo hi s.now }
 {
     let mut ok = true;
-    let mut i = 0;
-    while i < s.len() {
-        let x = s[i];
-        ok = ok & (lo <= x) & (x <= hi);
-        i += 1;
+    for x in s {
+        ok = ok & (lo <= *x) & (*x <= hi);
     }
     ok
 }
 
-// Whether s comes before t: at the first byte that differs, or where s ends and t goes on.
+// Whether s comes before t: at the first byte that differs, or where s ends and t goes on. A loop, as a chain of iterators takes longer here.
 fn precedes(s: &[u8], t: &[u8]) -> bool
     ensures { result ≡ before s.now t.now }
 {
-    let mut i = 0;
-    while i < s.len() {
+    for i in 0..s.len() {
         if t.len() <= i {
             return false;
         }
@@ -39,105 +60,53 @@ fn precedes(s: &[u8], t: &[u8]) -> bool
         if y < x {
             return false;
         }
-        i += 1;
     }
-    i < t.len()
+    s.len() < t.len()
 }
 
-// The length that a text's first byte tells.
-fn told(b: &[u8], i: usize) -> usize
+// The text at i, where n came before it and the last one is `prior`.
+fn text_at<'a>(b: &'a [u8], texts: Texts, n: usize, prior: &[u8], i: usize) -> Option<&'a [u8]>
     requires { i < length b.now }
-    ensures { (result ≡ get_or b.now i 0) × (result < 256) }
+    ensures text { MatchOption result (text_at texts b.now n prior.now i ≡ 0) (λ t. (text_at texts b.now n prior.now i ≡ length t.now + 1) × (t.now ≡ part (i + 1) (i + 1 + length t.now) b.now)) }
+    ensures within { IfSome result (λ t. i + 1 + length t.now ≤ length b.now) }
 {
-    b[i] as usize
-}
-
-// The length of the name at i with its length byte, where n came before it, the last at p..q; 0 where it is none.
-fn name_at(b: &[u8], i: usize, n: usize, p: usize, q: usize) -> usize
-    requires { (i < length b.now) × ((p ≤ q) × (q ≤ length b.now)) }
-    ensures { (result ≡ name_at b.now (last n p q) i) × (i + result ≤ length b.now) }
-{
+    let k = usize::from(b[i]);
     if MOST <= n {
-        return 0;
+        return None;
     }
-    let k = told(b, i);
-    if k < 1 {
-        return 0;
+    if k < texts.shortest {
+        return None;
     }
     if LONGEST < k {
-        return 0;
+        return None;
     }
     let from = i + 1;
     if b.len() - from < k {
-        return 0;
+        return None;
     }
-    let to = from + k;
-    if !printed(&b[from..to], 0x21, 0x7e) {
-        return 0;
+    let text = &b[from..from + k];
+    if !printed(text, texts.lowest, HIGHEST) {
+        return None;
     }
-    if !precedes(&b[p..q], &b[from..to]) {
-        return 0;
+    if texts.ascend && !precedes(prior, text) {
+        return None;
     }
-    k + 1
+    Some(text)
 }
 
-// 1 more than the number of names; 0 where the body is refused.
-pub fn count_names(b: &[u8]) -> usize
-    ensures { result ≡ names_in b.now }
+// How many texts the body has; none where it is refused. Inlined, so that the bounds of a byte are constants. (A loop by
+// lengths: where the next text is only a text's own length says.)
+#[inline(always)]
+pub fn count(b: &[u8], texts: Texts) -> Option<usize>
+    ensures { result ≡ one_less (counted texts b.now) }
 {
     let mut i = 0;
     let mut n = 0;
-    let mut p = 0;
-    let mut q = 0;
+    let mut prior = &b[..0];
     while i < b.len() {
-        let k = name_at(b, i, n, p, q);
-        if k == 0 {
-            return 0;
-        }
-        p = i + 1;
-        q = i + k;
+        prior = text_at(b, texts, n, prior, i)?;
+        i += prior.len() + 1;
         n += 1;
-        i += k;
     }
-    n + 1
-}
-
-// The length of the type at i with its length byte, where n came before it; 0 where it is none.
-fn type_at(b: &[u8], i: usize, n: usize) -> usize
-    requires { i < length b.now }
-    ensures { (result ≡ type_at b.now n i) × (i + result ≤ length b.now) }
-{
-    if MOST <= n {
-        return 0;
-    }
-    let k = told(b, i);
-    if LONGEST < k {
-        return 0;
-    }
-    let from = i + 1;
-    if b.len() - from < k {
-        return 0;
-    }
-    let to = from + k;
-    if !printed(&b[from..to], 0x20, 0x7e) {
-        return 0;
-    }
-    k + 1
-}
-
-// 1 more than the number of types; 0 where the body is refused.
-pub fn count_types(b: &[u8]) -> usize
-    ensures { result ≡ types_in b.now }
-{
-    let mut i = 0;
-    let mut n = 0;
-    while i < b.len() {
-        let k = type_at(b, i, n);
-        if k == 0 {
-            return 0;
-        }
-        n += 1;
-        i += k;
-    }
-    n + 1
+    Some(n)
 }

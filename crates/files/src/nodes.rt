@@ -51,14 +51,14 @@ pub fn reference(nodes: &[u8], n: usize) -> usize
     requires { n * 20 + 20 ≤ length nodes.now }
     ensures { (result ≡ ref_of nodes.now n) × (result < 65536) }
 {
-    layout::get16(nodes, n * SIZE + 2) as usize
+    layout::get::<2>(nodes, n * SIZE + 2) as usize
 }
 
 pub fn width(nodes: &[u8], n: usize) -> u32
     requires { n * 20 + 20 ≤ length nodes.now }
     ensures { result ≡ width_of nodes.now n }
 {
-    layout::get32(nodes, n * SIZE + 4) as u32
+    layout::get::<4>(nodes, n * SIZE + 4) as u32
 }
 
 // How many nodes it is with all under it.
@@ -66,14 +66,14 @@ pub fn span(nodes: &[u8], n: usize) -> usize
     requires { n * 20 + 20 ≤ length nodes.now }
     ensures { (result ≡ span_of nodes.now n) × (result < 4294967296) }
 {
-    layout::get32(nodes, n * SIZE + 8) as usize
+    layout::get::<4>(nodes, n * SIZE + 8) as usize
 }
 
 pub fn value(nodes: &[u8], n: usize) -> u64
     requires { n * 20 + 20 ≤ length nodes.now }
     ensures { result ≡ value_of nodes.now n }
 {
-    layout::get64(nodes, n * SIZE + 12)
+    layout::get::<8>(nodes, n * SIZE + 12)
 }
 
 // What a kind lets a node be: the flag's most, what the reference is, the width's least and most, the value's most, the least and the most children.
@@ -167,12 +167,10 @@ pub fn check(b: &[u8], names: usize, types: usize) -> bool
     ensures { result ≡ fields_ok b.now names types }
 {
     let count = b.len() / SIZE;
-    let mut n = 0;
-    while n < count {
+    for n in 0..count {
         if !check_node(b, n, names, types) {
             return false;
         }
-        n += 1;
     }
     true
 }

@@ -17,17 +17,15 @@ pub fn check(f: &[u8], n: usize) -> bool
     if f.len() < end {
         return false;
     }
-    if layout::get16(f, 0) as usize != n {
+    if layout::get::<2>(f, 0) as usize != n {
         return false;
     }
-    let mut k = 0;
-    while k < n {
-        let start = layout::get16(f, k * 4 + 2) as usize;
+    for k in 0..n {
+        let start = layout::get::<2>(f, k * 4 + 2) as usize;
         if start != end {
             return false;
         }
-        end = start + layout::get16(f, k * 4 + 4) as usize;
-        k += 1;
+        end = start + layout::get::<2>(f, k * 4 + 4) as usize;
     }
     end == f.len()
 }
@@ -37,7 +35,7 @@ pub fn body(f: &[u8], k: usize) -> &[u8]
     requires { HasBody f.now k }
     ensures { result.now ≡ body f.now k }
 {
-    let start = layout::get16(f, k * 4 + 2) as usize;
-    let end = start + layout::get16(f, k * 4 + 4) as usize;
+    let start = layout::get::<2>(f, k * 4 + 2) as usize;
+    let end = start + layout::get::<2>(f, k * 4 + 4) as usize;
     &f[start..end]
 }

@@ -1,5 +1,6 @@
 // Trees: children follow their parent, and a node's span counts it and all under it.
 ghost use Rattle.std.specs.Prelude.{◌≡◌, ◌+◌, ◌*◌, ◌<◌, ◌≤◌, length};
+ghost use Rattle.files.specs.Bytes.{one_less};
 ghost use Rattle.files.specs.Nodes.{placed_ok, count_ok, trees, trees_ok};
 
 use crate::nodes;
@@ -19,53 +20,50 @@ fn is_placed(kind: u8, parent: u8) -> bool
         | (!(kind == nodes::FIELD) & !(parent == nodes::STRUCT_INIT))
 }
 
-// Whether a kind may have c - 1 children; c is 0 where they are not as they must be.
-fn is_counted(kind: u8, c: usize) -> bool
-    ensures { result ≡ count_ok kind c }
+// Whether a kind may have so many children.
+fn is_counted(kind: u8, kids: usize) -> bool
+    ensures { result ≡ count_ok kind (kids + 1) }
 {
-    if c < 1 {
-        return false;
-    }
     let Rule(_, _, _, _, _, few, many) = nodes::rule_of(kind);
-    (few <= c - 1) & (c - 1 <= many)
+    (few <= kids) & (kids <= many)
 }
 
 // The trees side by side from node n up to node e, under a parent of a kind, with `depth` nodes left for a chain:
-// 1 more than how many there are; 0 where one is not as it must be.
-fn count(b: &[u8], depth: usize, parent: u8, n: usize, e: usize) -> usize
+// how many there are; none where one is not as it must be. (A loop by lengths: where the next tree is only a tree's own span says.)
+fn count(b: &[u8], depth: usize, parent: u8, n: usize, e: usize) -> Option<usize>
     requires { (n ≤ e) × (e * 20 ≤ length b.now) }
-    ensures { result ≡ trees b.now depth parent n e 0 }
+    ensures { result ≡ one_less (trees b.now depth parent n e 0) }
 {
     let mut at = n;
     let mut c = 0;
     while at < e {
         if depth < 1 {
-            return 0;
+            return None;
         }
         let kind = nodes::kind(b, at);
         let span = nodes::span(b, at);
         if span < 1 {
-            return 0;
+            return None;
         }
         if e - at < span {
-            return 0;
+            return None;
         }
         if !is_placed(kind, parent) {
-            return 0;
+            return None;
         }
         // A node without children, as most are, takes no call.
         let has_kids = 1 < span;
-        let mut kids = 1;
+        let mut kids = 0;
         if has_kids {
-            kids = count(b, depth - 1, kind, at + 1, at + span);
+            kids = count(b, depth - 1, kind, at + 1, at + span)?;
         }
         if !is_counted(kind, kids) {
-            return 0;
+            return None;
         }
         at += span;
         c += 1;
     }
-    c + 1
+    Some(c)
 }
 
 // Whether the body is whole nodes, and they are trees as they must be.
@@ -75,5 +73,5 @@ pub fn check(b: &[u8]) -> bool
     if b.len() % nodes::SIZE != 0 {
         return false;
     }
-    1 <= count(b, DEPTH, TOP, 0, b.len() / nodes::SIZE)
+    count(b, DEPTH, TOP, 0, b.len() / nodes::SIZE).is_some()
 }

@@ -1,11 +1,13 @@
 // A world: names, symbols and regions.
-ghost use Rattle.std.specs.Prelude.{◌≡◌, ◌&&◌, ◌+◌, ◌-◌, ◌*◌, ◌<◌, ◌≤◌, ◌/◌, leb, length};
+ghost use Rattle.std.specs.Prelude.{◌≡◌, ◌&&◌, ◌+◌, ◌-◌, ◌*◌, ◌<◌, ◌≤◌, ◌/◌, leb, length, IfSome};
 ghost use Rattle.layout.specs.Number.{number_at};
 ghost use Rattle.files.specs.Names.{names_in};
 ghost use Rattle.files.specs.Refusal.{names_of};
+ghost use Rattle.files.specs.World.{unless_zero};
 ghost use Rattle.files.specs.WorldFile.{symbols_ok, before, region_at, regions_in};
 
 use crate::names;
+use crate::names::Texts;
 
 // The bytes of a symbol, and of a region before its own bytes.
 pub const SYMBOL: usize = 11;
@@ -20,9 +22,8 @@ fn check_symbols(b: &[u8], names: usize) -> bool
     }
     let count = b.len() / SYMBOL;
     let mut least = 0;
-    let mut k = 0;
-    while k < count {
-        let name = layout::get16(b, k * SYMBOL) as usize;
+    for k in 0..count {
+        let name = layout::get::<2>(b, k * SYMBOL) as usize;
         if name < least {
             return false;
         }
@@ -30,37 +31,39 @@ fn check_symbols(b: &[u8], names: usize) -> bool
             return false;
         }
         least = name + 1;
-        k += 1;
     }
     true
 }
 
-// The length of the region at i, where n came before it and the last one's last address is `last`; 0 where it is none.
-fn region_at(b: &[u8], n: usize, last: u64, i: usize) -> usize
+// The length of the region at i, where n came before it and the last one's last address is `last`.
+fn region_at(b: &[u8], n: usize, last: u64, i: usize) -> Option<usize>
     requires { i < length b.now }
-    ensures { (result ≡ region_at b.now (before n last) i) × ((i + result ≤ length b.now) × ((result ≡ 0 → ⊥) → (13 ≤ result) × (number_at b.now i 8 + (result - 13) < 18446744073709551616))) }
+    ensures region { result ≡ unless_zero (region_at b.now (before n last) i) }
+    ensures within { IfSome result (λ k. (13 ≤ k) × (i + k ≤ length b.now)) }
+    ensures ends { IfSome result (λ k. number_at b.now i 8 + (k - 13) < 18446744073709551616) }
 {
     if b.len() - i < REGION {
-        return 0;
+        return None;
     }
-    let at = layout::get64(b, i);
-    let size = layout::get32(b, i + 8);
+    let at = layout::get::<8>(b, i);
+    let size = layout::get::<4>(b, i + 8);
     if size == 0 {
-        return 0;
+        return None;
     }
     // The last address is at + (size - 1): a region may end at 2^64, which no u64 holds.
     if u64::MAX - at < size - 1 {
-        return 0;
+        return None;
     }
     if b.len() - (i + REGION) < size as usize {
-        return 0;
+        return None;
     }
     if !((n == 0) | (last < at)) {
-        return 0;
+        return None;
     }
-    size as usize + REGION
+    Some(size as usize + REGION)
 }
 
+// By lengths, as names: where the next region is only a region's own length says.
 fn check_regions(b: &[u8]) -> bool
     ensures { result ≡ leb 1 (regions_in b.now) }
 {
@@ -68,11 +71,10 @@ fn check_regions(b: &[u8]) -> bool
     let mut last = 0;
     let mut i = 0;
     while i < b.len() {
-        let k = region_at(b, n, last, i);
-        if k == 0 {
+        let Some(k) = region_at(b, n, last, i) else {
             return false;
-        }
-        last = layout::get64(b, i) + (k - 13) as u64;
+        };
+        last = layout::get::<8>(b, i) + (k - 13) as u64;
         n += 1;
         i += k;
     }
@@ -82,11 +84,10 @@ fn check_regions(b: &[u8]) -> bool
 pub fn check(names: &[u8], symbols: &[u8], regions: &[u8]) -> bool
     ensures { result ≡ (leb 1 (names_in names.now) && symbols_ok symbols.now (names_of names.now) && leb 1 (regions_in regions.now)) }
 {
-    let n = names::count_names(names);
-    if n < 1 {
+    let Some(n) = names::count(names, Texts::NAMES) else {
         return false;
-    }
-    if !check_symbols(symbols, n - 1) {
+    };
+    if !check_symbols(symbols, n) {
         return false;
     }
     check_regions(regions)

@@ -3,29 +3,19 @@
 
 mod cases;
 
-use std::fs::File;
-use std::io;
+use anyhow::Context;
+use std::fs;
 
-fn compare(rt: &impl Print, mut reader: File) -> io::Result<()> {
-    let mut page = [0u8; 65536];
-    let mut routine = [0u8; 65536];
-    let mut world = [0u8; 65536];
-    let mut call = [0u8; 65536];
-    let count = cases::compare_all(
-        rt,
-        &mut reader,
-        &mut page,
-        &mut routine,
-        &mut world,
-        &mut call,
-    )?;
-    println!(rt; "{count} cases compared")
-}
+// The cases stand in pages of so many bytes.
+const PAGE: usize = 65536;
 
-fn main(rt: HostRuntime) -> io::Result<()> {
+fn main(rt: HostRuntime) -> anyhow::Result<()> {
     let path = "cases.bin";
-    match File::open(&rt, path) {
-        Ok(reader) => compare(&rt, reader),
-        Err(e) => eprintln!(rt; "{path}: {e}"),
+    let file = fs::read(&rt, path).context(path)?;
+    let mut count: usize = 0;
+    for page in file.chunks(PAGE) {
+        count = count.wrapping_add(cases::compare_page(&rt, page)?);
     }
+    println!(rt; "{count} cases compared")?;
+    Ok(())
 }

@@ -1,7 +1,7 @@
 -- What stays where the tables do, and variables looked up and set, as runs on the code's host. Assumes nothing.
 use mathlib.Core.Path.{◌≡◌, sym, ap₂, subst}
 use mathlib.Core.List.{List}
-use mathlib.Core.Option.{Option}
+use Rattle.std.specs.Prelude.{Option}
 use Prim.Native.Nat.{ℕ}
 use Rattle.value.specs.declared.Val.{Val}
 use Rattle.memory.specs.Overlay.{find}

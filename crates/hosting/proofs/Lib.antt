@@ -1,4 +1,3 @@
 pub mod Running
 pub mod Shapes
 pub mod Keeping
-pub mod Reasons

@@ -2,7 +2,7 @@
 use mathlib.Core.Path.{◌≡◌, refl, sym, ap, ◌∙◌, subst}
 use mathlib.Core.Bool.{Bool}
 use mathlib.Core.List.{List}
-use mathlib.Core.Option.{Option, none, some}
+use Rattle.std.specs.Prelude.{Option, None, Some}
 use Prim.Native.Nat.{ℕ, ◌≤◌, ◌<◌}
 use native.Mathlib.Nat.{le_refl, le_trans}
 use lib.ListN.{length}
@@ -64,8 +64,8 @@ host_in g x = code_host x.world g.how.second
 -- what holds unless the code has no room left, from something else that does
 pub kept_on : {A : Type 0} {P Q : Type 0} (e : Ending A) → (P → Q) → Kept e P → Kept e Q
 kept_on (ended a) f p = f p
-kept_on (short (some y)) f p = f p
-kept_on (short none) f p = tt
+kept_on (short (Some y)) f p = f p
+kept_on (short None) f p = tt
 
 -- a value is given, or an evaluation ends short, and nothing is done. What is given may be told by the tables
 pub done_runs : {A : Type 0} {g : Given} (val : Scene → A) {v : A} {w o : List ℕ} {a : Counts} → ((x : Scene) → Meant g x (tables w) → val x ≡ v) → Ready g w a
@@ -73,7 +73,7 @@ pub done_runs : {A : Type 0} {g : Given} (val : Scene → A) {v : A} {w o : List
 unfolding hosted
 done_runs val {w = w} {o = o} {a = a} e p = record { ready = p; tables = refl; came = λ x h. ap (λ y. (gave y, held w o a)) (e x h) }
 
-pub fail_runs : {A : Type 0} {g : Given} {y : Why} {w o : List ℕ} {a : Counts} → Ready g w a → Runs {A = A} g (λ x. fail y) w o a (short (some y)) w o a
+pub fail_runs : {A : Type 0} {g : Given} {y : Why} {w o : List ℕ} {a : Counts} → Ready g w a → Runs {A = A} g (λ x. fail y) w o a (short (Some y)) w o a
 unfolding hosted
 fail_runs p = record { ready = p; tables = refl; came = λ x h. refl }
 
@@ -95,12 +95,12 @@ module _ {A B : Type 0} {g : Given} {m : Scene → Act A} (f : Scene → A → A
 
   -- what ended short ends both
   pub halts : (y : Option Why) {w o : List ℕ} {a : Counts} → Runs g m w₀ o₀ a₀ (short y) w o a → Runs g (λ x. m x >>= f x) w₀ o₀ a₀ (short y) w o a
-  halts (some y) p = record {
+  halts (Some y) p = record {
     ready = p.ready;
     tables = p.tables;
     came = λ x h. hosted_bind (host_in g x) (f x) (m x) (held w₀ o₀ a₀) ∙ ap (λ (z : End A × Held). then_of (host_in g x) (f x) z.0 z.1) (p.came x h);
   }
-  halts none p = record {
+  halts None p = record {
     ready = tt;
     tables = tt;
     came = λ x h.

@@ -1,6 +1,5 @@
 -- What a run is in: the bytes that the code is given, and what they stand for. Assumes nothing.
-use Rattle.std.specs.Prelude.{◌≡◌, true, false, List, [], ℕ, ◌+◌, ◌*◌, ◌<◌, ◌≤◌, length, get_or}
-use Rattle.std.proofs.Math.Option.{Option, none, some}
+use Rattle.std.specs.Prelude.{◌≡◌, true, false, List, [], ℕ, ◌+◌, ◌*◌, ◌<◌, ◌≤◌, length, get_or, Option, None, Some}
 use Rattle.value.specs.declared.Ty.{Ty}
 use Rattle.spelling.specs.Spelling.{type_of, ends_star, before_star}
 use Rattle.layout.specs.Format.{whole}
@@ -54,7 +53,7 @@ pub record Scene : Type 0 where
 
 -- what a type of the routine points at
 abbrev pub pointee : List ℕ → Option Ty
-pointee text = elim (ends_star text) [ true ↦ some (type_of (before_star text)) | false ↦ none ]
+pointee text = elim (ends_star text) [ true ↦ Some (type_of (before_star text)) | false ↦ None ]
 
 -- the tables t tell the types and declarations of a scene, and with the symbols and regions its world
 pub record Meant (g : Given) (x : Scene) (t : List ℕ) : Type 0 where

@@ -1,7 +1,6 @@
 -- What setting up a workspace ensures: its tables, made of a routine and a world once, and the variables at the start and at the end of a run.
 -- Assumes nothing.
-use Rattle.std.specs.Prelude.{◌≡◌, Bool, true, false, List, [], map, ℕ, length}
-use Rattle.std.proofs.Math.Option.{none}
+use Rattle.std.specs.Prelude.{◌≡◌, Bool, true, false, List, [], map, ℕ, length, None}
 use Rattle.value.specs.Value.{type, known_val}
 use Rattle.memory.specs.Overlay.{Overlay}
 use Rattle.value.specs.declared.Val.{Val}
@@ -41,7 +40,7 @@ pub record Tabled (routine world w : List ℕ) (x : Indexed) : Type 0 where
 
 -- no memory, no note, and some variables
 abbrev pub fresh_view : Overlay Val → View
-fresh_view vs = record { variables = vs; memory = []; pending = none }
+fresh_view vs = record { variables = vs; memory = []; pending = None }
 
 -- a run with a call can start: its parameters are set
 pub record Started (routine call w₀ w : List ℕ) : Type 0 where

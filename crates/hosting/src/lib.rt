@@ -1,8 +1,16 @@
 // What a run on the lent bytes is told by: its counts, how it goes, and with what an evaluation or a statement ends.
 #![tactic(auto)]
 
-use index::Maybe;
+use stream::Reason;
 use value::{Ty, Val};
+
+// What an evaluation reads: the nodes of the routine, and the symbols and regions of the world.
+#[derive(Clone, Copy)]
+pub struct Reads<'a> {
+    pub nodes: &'a [u8],
+    pub symbols: &'a [u8],
+    pub regions: &'a [u8],
+}
 
 // The cursors of the two streams, the units left, and those spent on blocks and on statements.
 #[derive(Clone, Copy)]
@@ -29,40 +37,11 @@ pub struct How {
     pub second: bool,
 }
 
-// Why an evaluation ends short: a reason and what it names.
-#[derive(Clone, Copy)]
-pub struct Short {
-    pub reason: u64,
-    pub number: u64,
-}
-
-// The reasons by the record's numbers, and 0, which no record has: the workspace has no room for another written address.
-impl Short {
-    pub const FULL: u64 = 0;
-
-    pub const BRANCH_UNKNOWN: u64 = 1;
-
-    pub const SWITCH_UNKNOWN: u64 = 2;
-
-    pub const NO_CASE: u64 = 3;
-
-    pub const STRUCT_TO: u64 = 4;
-
-    pub const UNKNOWN_ADDRESS: u64 = 5;
-
-    pub const UNKNOWN_VALUE: u64 = 6;
-
-    pub const NO_WIDTH: u64 = 7;
-
-    pub const STORE_TO: u64 = 8;
-
-    pub const BY_ZERO: u64 = 9;
-}
-
-#[derive(Clone, Copy)]
-pub enum Outcome {
-    Is(Val),
-    Ends(Short),
+// Why an evaluation ends short: the workspace has no room for another written address, or a reason of the record, with what it names.
+#[derive(Clone, Copy, PartialEq, Eq)]
+pub enum Short {
+    Full,
+    Why(Reason, u64),
 }
 
 #[derive(Clone, Copy)]
@@ -73,48 +52,34 @@ pub enum Note {
     Unknown,
 }
 
+// What executing did: the name that it wrote, with the value, and its note.
 #[derive(Clone, Copy)]
 pub struct Did {
-    pub wrote: bool,
-    pub name: usize,
-    pub value: Val,
+    pub wrote: Option<(usize, Val)>,
     pub note: Note,
 }
 
-#[derive(Clone, Copy)]
-pub enum Done {
-    Does(Did),
-    Fails(Short),
-}
-
-// What a returned value is cast to: a type, or nothing where the return type is `void`.
-#[derive(Clone, Copy)]
-pub enum Returns {
-    As(Ty),
-    Void,
-}
-
-// What a run needs to know of its routine beside the bodies: how many blocks it has, what it returns, and the numbers of the two names by which an
-// Intrinsic ends a run, 65,536 for one that the routine does not have.
+// What a run needs to know of its routine beside the bodies: how many blocks it has, the type to which a returned value is cast, which is none where the
+// return type is `void`, and the numbers of the two names by which an Intrinsic ends a run, where the routine has them.
 #[derive(Clone, Copy)]
 pub struct Facts {
     pub blocks: usize,
-    pub returns: Returns,
-    pub unreachable: usize,
-    pub halted: usize,
+    pub returns: Option<Ty>,
+    pub unreachable: Option<usize>,
+    pub halted: Option<usize>,
 }
 
-// Why a run stopped. Unknown with reason FULL is no stop of the definition: the run is refused.
+// Why a run stopped. Unknown because the workspace is full is no stop of the definition: the run is refused.
 #[derive(Clone, Copy)]
 pub enum Stop {
     ReturnedNothing,
     Returned(Val),
     Steps,
-    Unknown(Maybe, Short),
+    Unknown(Option<u64>, Short),
     NoBlock(u64),
     NoBlocks,
-    NoReturn(Maybe),
-    Halted(Maybe, u64),
+    NoReturn(Option<u64>),
+    Halted(Option<u64>, u64),
 }
 
 #[derive(Clone, Copy)]

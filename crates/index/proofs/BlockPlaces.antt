@@ -2,13 +2,13 @@
 use mathlib.Core.Path.{◌≡◌, refl, sym, ap, ◌∙◌}
 use mathlib.Core.Bool.{Bool, true, ◌&&◌, ◌||◌}
 use mathlib.Core.List.{List, [], ◌∷◌}
-use mathlib.Core.Option.{none, some}
+use Rattle.std.specs.Prelude.{None, Some, slice_get}
 use Prim.Native.Nat.{ℕ, zero, suc, ◌+◌, ◌-◌, ◌≤◌, ◌<◌}
 use native.Mathlib.Nat.{not-suc-le-zero, add-zero, add-suc, suc-add}
 use native.Mathlib.Omega.{arith}
 use borrow.Author.Tests.{leb-true, lt-ltb, le-ltb}
 use lib.Dec.{leb, ltb, eqb}
-use lib.ListN.{length, get_or, get_elem?}
+use lib.ListN.{length, get_or}
 use Rattle.layout.specs.Number.{number_at}
 use Rattle.files.specs.Bytes.{only}
 use Rattle.files.specs.Items.{read_from}
@@ -132,7 +132,7 @@ module _ (nodes statements b : List ℕ) where
   begins n i h = omega (arith, place_mono (block_size b) (i + block_size b i) 0 n (omega arith))
 
   block_at_lem : (f n i first k : ℕ) → place_from (block_size b) i n ≡ length b → n ≤ f → k < n
-      → get_elem? (blocks_from f nodes statements b i first) k ≡ some (block_at nodes statements b (place_from (block_size b) i k) (first_from b i first k))
+      → slice_get (blocks_from f nodes statements b i first) k ≡ Some (block_at nodes statements b (place_from (block_size b) i k) (first_from b i first k))
   unfolding place_from first_from
   block_at_lem f zero i first k h l g = absurd (not-suc-le-zero g)
   block_at_lem zero (suc n) i first k h l g = absurd (not-suc-le-zero l)
@@ -140,7 +140,7 @@ module _ (nodes statements b : List ℕ) where
   block_at_lem (suc f) (suc n) i first (suc k) h l g =
       rw (blocks_step f i first (begins n i h)) (block_at_lem f n (i + block_size b i) (first + number_at b i 2) k h (omega arith) (omega arith))
 
-  block_past : (f n i first k : ℕ) → place_from (block_size b) i n ≡ length b → n ≤ f → n ≤ k → get_elem? (blocks_from f nodes statements b i first) k ≡ none
+  block_past : (f n i first k : ℕ) → place_from (block_size b) i n ≡ length b → n ≤ f → n ≤ k → slice_get (blocks_from f nodes statements b i first) k ≡ None
   unfolding place_from
   block_past f zero i first k h l g = rw (blocks_stop f i first (omega arith))
   block_past zero (suc n) i first k h l g = absurd (not-suc-le-zero l)
@@ -154,11 +154,11 @@ module _ (nodes statements b : List ℕ) where
     few = omega (arith, place_least (block_size b) 1 (block_one b) 0 n)
 
     -- block k of the program is the one at its place, with its first statement; there is none past the last
-    pub block_there : (k : ℕ) → k < n → get_elem? (blocks_from (length b) nodes statements b 0 0) k ≡ some (block_at nodes statements b (block_start b k) (block_first b k))
+    pub block_there : (k : ℕ) → k < n → slice_get (blocks_from (length b) nodes statements b 0 0) k ≡ Some (block_at nodes statements b (block_start b k) (block_first b k))
     unfolding block_start block_first
     block_there k h = block_at_lem (length b) n 0 0 k full few h
 
-    pub block_none : (k : ℕ) → n ≤ k → get_elem? (blocks_from (length b) nodes statements b 0 0) k ≡ none
+    pub block_none : (k : ℕ) → n ≤ k → slice_get (blocks_from (length b) nodes statements b 0 0) k ≡ None
     unfolding block_start
     block_none k h = block_past (length b) n 0 0 k full few h
 
@@ -169,8 +169,8 @@ block_before b n k full h = omega (arith, place_strict (block_size b) (block_one
 -- ---- lists of things in order
 
 module _ {A : Type 0} (f : ℕ → A) where
-  pub listed_at : (i n k : ℕ) → k < n → get_elem? (listed f i n) k ≡ some (f (i + k))
+  pub listed_at : (i n k : ℕ) → k < n → slice_get (listed f i n) k ≡ Some (f (i + k))
   unfolding listed
   listed_at i zero k h = absurd (not-suc-le-zero h)
   listed_at i (suc n) zero h = rw add-zero
-  listed_at i (suc n) (suc k) h = listed_at (suc i) n k (omega arith) ∙ ap (λ (m : ℕ). some (f m)) (suc-add i k ∙ sym (add-suc i k))
+  listed_at i (suc n) (suc k) h = listed_at (suc i) n k (omega arith) ∙ ap (λ (m : ℕ). Some (f m)) (suc-add i k ∙ sym (add-suc i k))

@@ -8,7 +8,6 @@ pub mod BlockPlaces
 pub mod BlockIndex
 pub mod BlockFields
 pub mod NameOrder
-pub mod SymbolIndex
 pub mod AscendingNames
 pub mod SymbolSearch
 pub mod SymbolMerge

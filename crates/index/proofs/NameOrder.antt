@@ -1,49 +1,38 @@
--- The order of names as bytes: a loop that compares two, and that it is an order. Assumes nothing.
+-- The order of names as bytes: it is the library's, and an order. Assumes nothing.
 use mathlib.Core.Path.{◌≡◌, refl, sym, ap, ◌∙◌}
-use mathlib.Core.Bool.{Bool, true, false, ◌&&◌, ◌||◌, true≢false}
+use mathlib.Core.Bool.{cond, Bool, true, false, ◌&&◌, ◌||◌, true≢false}
 use mathlib.Core.Logic.{◌⊎◌, inl, inr, ⊎_elim}
 use mathlib.Core.List.{List, [], ◌∷◌}
-use Prim.Native.Nat.{ℕ, ◌+◌, ◌≤◌, ◌<◌}
-use native.Mathlib.Numerals.{add-one}
+use Prim.Native.Nat.{ℕ, ◌<◌}
 use native.Mathlib.Omega.{arith}
 use borrow.Author.Tests.{lt-ltb, le-ltb, eq-eqb, ne_eqb, ltb-true, ltb-false, eqb-true, eqb-false}
 use lib.Dec.{ltb, eqb}
-use lib.ListN.{length, get_or, drop, drop_of_length-le}
-use lib.Seq.{drop-cons}
 use Rattle.layout.specs.Text.{same}
 use Rattle.files.specs.Names.{before}
-use Rattle.index.specs.declared.symbols.Ordering.{Ordering}
-use Rattle.index.specs.declared.symbols.Ordering.TheVariants.{Less, Equal, Greater}
-use Rattle.index.specs.Symbols.{ordered, order_of}
+use Rattle.std.specs.Cmp.Lexicographic.{slice_cmp}
+use Rattle.std.specs.Ordering.{nat_cmp, ordering_then}
+use Rattle.std.specs.declared.cmp.Ordering.{Ordering}
+use Rattle.std.specs.declared.cmp.Ordering.TheVariants.{Less, Equal, Greater}
 
--- ---- two names compared byte by byte: the answer r is how the rest from place i on compares
+-- ---- two names as the library compares them
 
-module _ (a b : List ℕ) (i : ℕ) (r : Ordering) (e : r ≡ order_of (drop i a) (drop i b)) where
-  pub order_longer : i < length a → length b ≤ i → Greater ≡ r
-  unfolding before
-  order_longer h l = sym (e ∙ rw (drop-cons a i 0 h, drop_of_length-le b l))
+abbrev ordered : (before same : Bool) → Ordering
+ordered true t = Less
+ordered false true = Equal
+ordered false false = Greater
 
-  pub order_less : i < length a → i < length b → get_or a i 0 < get_or b i 0 → Less ≡ r
-  unfolding before
-  order_less h g l = sym (e ∙ rw (drop-cons a i 0 h, drop-cons b i 0 g, lt-ltb _ _ l))
-
-  pub order_more : i < length a → i < length b → get_or b i 0 < get_or a i 0 → Greater ≡ r
-  unfolding before
-  order_more h g l =
-      sym (e ∙ rw (drop-cons a i 0 h, drop-cons b i 0 g, le-ltb (get_or a i 0) (get_or b i 0) (omega arith), ne_eqb (get_or a i 0) (get_or b i 0) (λ z. omega arith)))
-
-  pub order_on : i < length a → i < length b → get_or b i 0 ≤ get_or a i 0 → get_or a i 0 ≤ get_or b i 0 → r ≡ order_of (drop (i + 1) a) (drop (i + 1) b)
-  unfolding before
-  order_on h g l u =
-      e ∙ rw (add-one, drop-cons a i 0 h, drop-cons b i 0 g, le-ltb (get_or a i 0) (get_or b i 0) l, eq-eqb (get_or a i 0) (get_or b i 0) (omega arith))
-
-  pub order_shorter : length a ≤ i → i < length b → Less ≡ r
-  unfolding before
-  order_shorter h g = sym (e ∙ rw (drop_of_length-le a h, drop-cons b i 0 g))
-
-  pub order_equal : length a ≤ i → length b ≤ i → Equal ≡ r
-  unfolding before
-  order_equal h g = sym (e ∙ rw (drop_of_length-le a h, drop_of_length-le b g))
+order : (a b : List ℕ) → slice_cmp nat_cmp a b ≡ ordered (before a b) (same a b)
+unfolding before
+order [] [] = refl
+order [] (y ∷ ys) = refl
+order (x ∷ xs) [] = refl
+order (x ∷ xs) (y ∷ ys) = go (ltb x y) (eqb x y) (order xs ys)
+  where
+    go : (t u : Bool) → slice_cmp nat_cmp xs ys ≡ ordered (before xs ys) (same xs ys)
+        → ordering_then (cond t Less (cond u Equal Greater)) (slice_cmp nat_cmp xs ys) ≡ ordered (t || (u && before xs ys)) (u && same xs ys)
+    go true u h = refl
+    go false true h = h
+    go false false h = refl
 
 -- ---- what the three answers say
 
@@ -57,15 +46,15 @@ told true u r e = ((λ z. refl), (λ z. absurd (omega (arith, ap number (sym e �
 told false true r e = ((λ z. absurd (omega (arith, ap number (sym e ∙ z)))), (λ z. refl), λ z. absurd (omega (arith, ap number (sym e ∙ z))))
 told false false r e = ((λ z. absurd (omega (arith, ap number (sym e ∙ z)))), (λ z. absurd (omega (arith, ap number (sym e ∙ z)))), λ z. (refl, refl))
 
-module _ (a b : List ℕ) (r : Ordering) (e : r ≡ order_of a b) where
+module _ (a b : List ℕ) (r : Ordering) (e : r ≡ slice_cmp nat_cmp a b) where
   pub told_less : r ≡ Less → before a b ≡ true
-  told_less = (told (before a b) (same a b) r e).0
+  told_less = (told (before a b) (same a b) r (e ∙ order a b)).0
 
   pub told_equal : r ≡ Equal → same a b ≡ true
-  told_equal = (told (before a b) (same a b) r e).1
+  told_equal = (told (before a b) (same a b) r (e ∙ order a b)).1
 
   pub told_greater : r ≡ Greater → (before a b ≡ false) × (same a b ≡ false)
-  told_greater = (told (before a b) (same a b) r e).2
+  told_greater = (told (before a b) (same a b) r (e ∙ order a b)).2
 
 -- ---- an order
 

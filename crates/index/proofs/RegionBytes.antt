@@ -2,7 +2,7 @@
 use mathlib.Core.Path.{◌≡◌, refl, sym, ap, ap₂, ◌∙◌}
 use mathlib.Core.Bool.{Bool, true, false, ◌&&◌, and-false}
 use mathlib.Core.List.{List, [], ◌∷◌, ◌++◌}
-use mathlib.Core.Option.{none, some}
+use Rattle.std.specs.Prelude.{None, Some}
 use mathlib.Core.Logic.{⊎_elim}
 use Prim.Native.Nat.{ℕ, zero, suc, ◌+◌, ◌-◌, ◌≤◌, ◌<◌}
 use native.Mathlib.Nat.{not-suc-le-zero, eq-or-lt_of_le, le_of_suc-le-suc, add-zero, add-suc, suc-add, zero-add}
@@ -33,7 +33,7 @@ has_it : (r : Region) (a : ℕ) → r.0 ≤ a → a < r.0 + length r.1 → has r
 has_it r a h g = rw (le-leb r.0 a h, lt-ltb a (r.0 + length r.1) g)
 
 module _ (a : ℕ) (d : Region) where
-  byte_hit : (r : Region) (rs : List Region) → has r a ≡ true → byte_at (r ∷ rs) a ≡ some (get_or r.1 (a - r.0) 0)
+  byte_hit : (r : Region) (rs : List Region) → has r a ≡ true → byte_at (r ∷ rs) a ≡ Some (get_or r.1 (a - r.0) 0)
   unfolding byte_at
   byte_hit r rs e = rw (e, byte_at)
 
@@ -42,12 +42,12 @@ module _ (a : ℕ) (d : Region) where
   byte_miss r rs e = rw (e, byte_at)
 
   byte_found : (rs : List Region) (k : ℕ) → k < length rs → ((j : ℕ) → j < k → has (get_or rs j d) a ≡ false) → has (get_or rs k d) a ≡ true
-      → byte_at rs a ≡ some (get_or (get_or rs k d).1 (a - (get_or rs k d).0) 0)
+      → byte_at rs a ≡ Some (get_or (get_or rs k d).1 (a - (get_or rs k d).0) 0)
   byte_found [] k l h e = absurd (not-suc-le-zero l)
   byte_found (r ∷ rs) zero l h e = byte_hit r rs e
   byte_found (r ∷ rs) (suc k) l h e = byte_miss r rs (h 0 (omega arith)) ∙ byte_found rs k (omega arith) (λ j g. h (suc j) (omega arith)) e
 
-  byte_missing : (rs : List Region) → ((j : ℕ) → j < length rs → has (get_or rs j d) a ≡ false) → byte_at rs a ≡ none
+  byte_missing : (rs : List Region) → ((j : ℕ) → j < length rs → has (get_or rs j d) a ≡ false) → byte_at rs a ≡ None
   unfolding byte_at
   byte_missing [] h = refl
   byte_missing (r ∷ rs) h = byte_miss r rs (h 0 (omega arith)) ∙ byte_missing rs (λ j g. h (suc j) (omega arith))
@@ -79,7 +79,7 @@ module _ (b : List ℕ) (all : Regions b) where
   past k a l h = has_no_more (get_or (whole region b) k nothing) a (omega (arith, its_end k l, h))
 
   -- the regions before an address's own end by it, and those from there on start after it
-  pub byte_none : {n a : ℕ} → Clear b n a → (n < region_count b → a < start_at b (region_place b n)) → byte_at (whole region b) a ≡ none
+  pub byte_none : {n a : ℕ} → Clear b n a → (n < region_count b → a < start_at b (region_place b n)) → byte_at (whole region b) a ≡ None
   unfolding region_count
   byte_none {n} {a} clear after = byte_missing a nothing (whole region b) (λ j l. go j l (ltb j n) refl)
     where
@@ -91,7 +91,7 @@ module _ (b : List ℕ) (all : Regions b) where
           has_not_yet (get_or (whole region b) j nothing) a (omega (arith, its_start b all j nothing l, after (omega (arith, ltb-false j n p)), g))
 
   -- the byte that the region at a place has
-  pub byte_held : {a i : ℕ} → Bytes b → Holding b a i → byte_at (whole region b) a ≡ some (get_or b (i + 12 + (a - start_at b i)) 0)
+  pub byte_held : {a i : ℕ} → Bytes b → Holding b a i → byte_at (whole region b) a ≡ Some (get_or b (i + 12 + (a - start_at b i)) 0)
   unfolding region_count
   byte_held {a} {i} bytes at =
       let k = at.number in
@@ -105,21 +105,21 @@ module _ (b : List ℕ) (all : Regions b) where
       ∙ get_or-take (number_at b (p + 8) 4) (drop (p + 12) b) (a - start_at b p) 0 (offset_in b p a low high) ∙ get_or-drop (p + 12) b (a - start_at b p) 0 in
       byte_found a nothing (whole region b) k l (λ j m. past j a (omega arith) (omega (arith, ends_before j k m l)))
       (has_it r a (omega (arith, its_start b all k nothing l)) (omega (arith, its_end k l)))
-      ∙ ap (λ (x : ℕ). some x) e ∙ ap (λ (j : ℕ). some (get_or b (j + 12 + (a - start_at b j)) 0)) (sym at.here)
+      ∙ ap (λ (x : ℕ). Some x) e ∙ ap (λ (j : ℕ). Some (get_or b (j + 12 + (a - start_at b j)) 0)) (sym at.here)
 
 -- ---- unbroken bytes
 
 module _ (rs : List Region) where
-  bytes_one : (n a x : ℕ) → byte_at rs a ≡ some x → bytes_from rs (suc n) a ≡ x ∷ bytes_from rs n (suc a)
+  bytes_one : (n a x : ℕ) → byte_at rs a ≡ Some x → bytes_from rs (suc n) a ≡ x ∷ bytes_from rs n (suc a)
   unfolding bytes_from
   bytes_one n a x e = rw (e, bytes_from)
 
-  pub bytes_none : (n a : ℕ) → byte_at rs a ≡ none → bytes_from rs n a ≡ []
+  pub bytes_none : (n a : ℕ) → byte_at rs a ≡ None → bytes_from rs n a ≡ []
   unfolding bytes_from
   bytes_none zero a e = refl
   bytes_none (suc n) a e = rw (e, bytes_from)
 
-  pub bytes_run : (xs : List ℕ) (n a : ℕ) → ((t : ℕ) → t < length xs → byte_at rs (a + t) ≡ some (get_or xs t 0)) → bytes_from rs (length xs + n) a ≡ xs ++ bytes_from rs n (a + length xs)
+  pub bytes_run : (xs : List ℕ) (n a : ℕ) → ((t : ℕ) → t < length xs → byte_at rs (a + t) ≡ Some (get_or xs t 0)) → bytes_from rs (length xs + n) a ≡ xs ++ bytes_from rs n (a + length xs)
   bytes_run [] n a h = ap₂ (bytes_from rs) (zero-add n) (sym (add-zero a))
   bytes_run (x ∷ xs) n a h =
       ap (λ (m : ℕ). bytes_from rs m a) (suc-add (length xs) n)

@@ -2,7 +2,7 @@
 use mathlib.Core.Path.{◌≡◌, refl, sym, ap, subst, ◌∙◌}
 use mathlib.Core.Bool.{Bool, true, false, cond}
 use mathlib.Core.List.{List}
-use mathlib.Core.Option.{none}
+use Rattle.std.specs.Prelude.{None, Some}
 use Prim.Native.Nat.{ℕ, ◌+◌, ◌-◌, ◌*◌, ◌/◌, ◌%◌, ◌≤◌, ◌<◌}
 use native.Mathlib.Nat.{le_antisymm, lt_of_not-le, le_of_suc-le-suc}
 use native.Mathlib.Omega.{arith}
@@ -10,8 +10,6 @@ use borrow.Author.Tests.{ltb-true, ltb-false, eqb-true, eqb-false}
 use lib.Dec.{ltb, eqb}
 use lib.ListN.{length}
 use Rattle.layout.specs.Number.{number_at, put_number}
-use Rattle.layout.specs.Format.{whole}
-use Rattle.files.specs.World.{region, byte_at}
 use Rattle.index.specs.Places.{place_from, region_size}
 use Rattle.index.specs.Regions.{regions_room, region_count, region_place, start_at, end_at, RegionInside, Regions, RegionsIndexed, Clear, From, Numbered, Located}
 use Rattle.index.proofs.PlaceLaws.{place_order, place_next, place_strict}
@@ -147,24 +145,17 @@ module _ {b : List ℕ} (all : Regions b) where
       go j l true p = so.each j (ltb-true j k p)
       go j l false p = let q : j ≡ k = omega (arith, ltb-false j k p) in rw q h
 
-  -- there is none past the end
-  pub no_region : {a : ℕ} → byte_at (whole region b) a ≡ none → Located b a (length b)
-  no_region e = record { found = λ h. absurd (omega arith); missing = λ h. e }
-
   module _ {a i : ℕ} (so : From b a i) where
     pub from_inside : i < length b → RegionInside b i
     from_inside h = in_body all so.here (is_region all so.here h)
 
     module _ {s : ℕ} (h : i < length b) (e : s ≡ number_at b i 8) where
-      pub before_region : a < s → Located b a (length b)
-      before_region l = no_region (byte_none b all so.clear (λ g. omega (arith, e, ap (λ (j : ℕ). number_at b j 8) so.here, l)))
+      pub before_region : a < s → Located b a None
+      before_region l = (byte_none b all so.clear (λ g. omega (arith, e, ap (λ (j : ℕ). number_at b j 8) so.here, l)))
 
       module _ {n : ℕ} (low : s ≤ a) (g : n ≡ number_at b (i + 8) 4) where
-        pub in_region : a - s < n → Located b a i
-        in_region l = record {
-          found = λ m. record { number = so.number; here = so.here; most = is_region all so.here h; low = omega (arith, e, low); high = omega (arith, e, g, low, l) };
-          missing = λ m. absurd (omega arith);
-        }
+        pub in_region : a - s < n → Located b a (Some i)
+        in_region l = record { number = so.number; here = so.here; most = is_region all so.here h; low = omega (arith, e, low); high = omega (arith, e, g, low, l) }
 
         pub past_region : n ≤ a - s → From b a (i + n + 12)
         past_region l =
@@ -178,8 +169,8 @@ module _ {b : List ℕ} (all : Regions b) where
               clear = clear_more so.clear (subst (λ (j : ℕ). number_at b j 8 + number_at b (j + 8) 4 ≤ a) so.here f);
             }
 
-    pub past_all : length b ≤ i → Located b a (length b)
-    past_all h = no_region (byte_none b all so.clear (λ g. absurd (omega (arith, is_end all so.here so.most h))))
+    pub past_all : length b ≤ i → Located b a None
+    past_all h = byte_none b all so.clear (λ g. absurd (omega (arith, is_end all so.here so.most h)))
 
 -- ---- a region that touches the one before it
 
@@ -199,8 +190,8 @@ module _ {b : List ℕ} (all : Regions b) {i : ℕ} (so : Numbered b i) where
         let q : i + n + 12 ≡ i + region_size b i = omega (arith, g) in
         q ∙ ap (λ (j : ℕ). j + region_size b j) so.here ∙ sym (region_next b so.number)
 
-    pub no_next : length b ≤ i + n + 12 → Located b (end_at b i) (length b)
-    no_next h = no_region all (byte_none b all its_clear (λ l. absurd (omega (arith, is_inside all next_here l))))
+    pub no_next : length b ≤ i + n + 12 → Located b (end_at b i) None
+    no_next h = byte_none b all its_clear (λ l. absurd (omega (arith, is_inside all next_here l)))
 
     module _ (h : i + n + 12 < length b) where
       next_number : so.number + 1 < region_count b
@@ -219,19 +210,16 @@ module _ {b : List ℕ} (all : Regions b) {i : ℕ} (so : Numbered b i) where
         pub next_later : s + (n - 1) ≤ t
         next_later = omega (arith, its_end, next_start f, ends_before b all so.number (so.number + 1) (omega arith) next_number, ap (end_at b) so.here)
 
-        pub next_touches : t - (s + (n - 1)) ≡ 1 → Located b (end_at b i) (i + n + 12)
+        pub next_touches : t - (s + (n - 1)) ≡ 1 → Located b (end_at b i) (Some (i + n + 12))
         next_touches z = record {
-          found = λ m. record {
-            number = so.number + 1;
-            here = next_here;
-            most = next_number;
-            low = omega (arith, its_end, f, z);
-            high = omega (arith, its_end, f, z, next_inside.some);
-          };
-          missing = λ m. absurd (omega arith);
+          number = so.number + 1;
+          here = next_here;
+          most = next_number;
+          low = omega (arith, its_end, f, z);
+          high = omega (arith, its_end, f, z, next_inside.some);
         }
 
-        pub next_apart : (t - (s + (n - 1)) ≡ 1 → ⊥) → Located b (end_at b i) (length b)
+        pub next_apart : (t - (s + (n - 1)) ≡ 1 → ⊥) → Located b (end_at b i) None
         next_apart z =
-            no_region all (byte_none b all its_clear
-            (λ l. omega (arith, its_end, next_start f, z, ends_before b all so.number (so.number + 1) (omega arith) next_number, ap (end_at b) so.here)))
+            byte_none b all its_clear
+            (λ l. omega (arith, its_end, next_start f, z, ends_before b all so.number (so.number + 1) (omega arith) next_number, ap (end_at b) so.here))

@@ -1,8 +1,8 @@
 -- The bytes from an address on, region by region. Assumes nothing.
 use mathlib.Core.Path.{◌≡◌, sym, ap, ap₂, subst, ◌∙◌}
 use mathlib.Core.List.{List, ◌++◌, append_assoc, append-nil}
-use mathlib.Core.Option.{none, some}
-use Prim.Native.Nat.{ℕ, ◌+◌, ◌-◌, ◌*◌, ◌%◌, ◌^◌, ◌≤◌, ◌<◌, min}
+use Rattle.std.specs.Prelude.{Option, None, Some, IfSome}
+use Prim.Native.Nat.{ℕ, suc, ◌+◌, ◌-◌, ◌*◌, ◌%◌, ◌^◌, ◌≤◌, ◌<◌, min}
 use native.Mathlib.Nat.{pow-le-pow_right, add-zero, sub-zero}
 use native.Mathlib.Omega.{arith}
 use mir.Syntax.{w8}
@@ -42,12 +42,12 @@ module _ {b : List ℕ} {a i : ℕ} (all : Regions b) (at : Holding b a i) where
       ∙ bytes_run (whole region b) xs n a (λ t g. byte t (subst (λ (k : ℕ). t < k) l g))
       ∙ ap₂ (λ (ys : List ℕ) (k : ℕ). ys ++ bytes_from (whole region b) n (a + k)) (sym e) l
     where
-      byte : (t : ℕ) → t < m → byte_at (whole region b) (a + t) ≡ some (get_or (take m (drop (i + 12 + (a - start_at b i)) b)) t 0)
+      byte : (t : ℕ) → t < m → byte_at (whole region b) (a + t) ≡ Some (get_or (take m (drop (i + 12 + (a - start_at b i)) b)) t 0)
       byte t g =
           let q : i + 12 + (a + t - start_at b i) ≡ i + 12 + (a - start_at b i) + t = omega (arith, at.low) in
           byte_held b all bytes (record { number = at.number; here = at.here; most = at.most; low = omega (arith, at.low); high = omega (arith, h, g) })
-          ∙ ap (λ (j : ℕ). some (get_or b j 0)) q
-          ∙ ap (λ (x : ℕ). some x) (sym (get_or-take m (drop (i + 12 + (a - start_at b i)) b) t 0 g ∙ get_or-drop (i + 12 + (a - start_at b i)) b t 0))
+          ∙ ap (λ (j : ℕ). Some (get_or b j 0)) q
+          ∙ ap (λ (x : ℕ). Some x) (sym (get_or-take m (drop (i + 12 + (a - start_at b i)) b) t 0 g ∙ get_or-drop (i + 12 + (a - start_at b i)) b t 0))
 
 -- ---- a turn
 
@@ -114,9 +114,9 @@ module _ {b : List ℕ} {a n : ℕ} {image : Image} (so : Gathered b a n image) 
       }
 
   -- no region has the next
-  pub read_end : {i : ℕ} → Located b (a + image.count) i → length b ≤ i → ReadFrom b a n image
-  read_end at h = record {
-    bytes = sym (so.bytes ∙ ap (λ (ys : List ℕ). le image.count image.number ++ ys) (bytes_none (whole region b) (n - image.count) (a + image.count) (at.missing h))
+  pub read_end : byte_at (whole region b) (a + image.count) ≡ None → ReadFrom b a n image
+  read_end h = record {
+    bytes = sym (so.bytes ∙ ap (λ (ys : List ℕ). le image.count image.number ++ ys) (bytes_none (whole region b) (n - image.count) (a + image.count) h)
         ∙ append-nil (le image.count image.number));
     small = so.small;
     most = so.most;
@@ -125,25 +125,37 @@ module _ {b : List ℕ} {a n : ℕ} {image : Image} (so : Gathered b a n image) 
 -- a body without regions
 pub read_none : {b part : List ℕ} {count a n : ℕ} → RegionsIndexed b part count → count ≡ 0 → ReadFrom b a n (record { count = 0; number = 0 })
 read_none {b} {part} {count} {a} {n} all z =
-    let e : byte_at (whole region b) a ≡ none = byte_none b all.regions {n = 0} (record { each = λ k h. absurd (omega arith) }) (λ h. absurd (omega (arith, all.number, z))) in
+    let e : byte_at (whole region b) a ≡ None = byte_none b all.regions {n = 0} (record { each = λ k h. absurd (omega arith) }) (λ h. absurd (omega (arith, all.number, z))) in
     record { bytes = sym (bytes_none (whole region b) n a e); small = lit< tt; most = omega arith }
 
 -- ---- the loop over regions that touch
 
-pub record Reading (b : List ℕ) (a n : ℕ) (image : Image) (at : ℕ) : Type 0 where
+pub record Reading (b : List ℕ) (a n : ℕ) (image : Image) (next : Option ℕ) : Type 0 where
   pub gathered : Gathered b a n image
-  pub located : Located b (a + image.count) at
+  pub located : Located b (a + image.count) next
   pub low : image.count < 8
 
-pub reading_none : {b : List ℕ} {a n at : ℕ} → Located b a at → Reading b a n (record { count = 0; number = 0 }) at
-reading_none {b} {a} {n} {at} h = record { gathered = gathered_none; located = subst (λ (x : ℕ). Located b x at) (sym (add-zero a)) h; low = lit< tt }
+pub reading_none : {b : List ℕ} {a n : ℕ} {next : Option ℕ} → Located b a next → Reading b a n (record { count = 0; number = 0 }) next
+reading_none {b} {a} {n} {next} h = record { gathered = gathered_none; located = subst (λ (x : ℕ). Located b x next) (sym (add-zero a)) h; low = lit< tt }
 
-pub reading_held : {b : List ℕ} {a n at : ℕ} {image : Image} → Reading b a n image at → at < length b → Holding b (a + image.count) at
-reading_held so h = so.located.found h
+pub reading_held : {b : List ℕ} {a n at : ℕ} {image : Image} {next : Option ℕ} → Reading b a n image next → next ≡ Some at → Holding b (a + image.count) at
+reading_held {b} {a} {n} {at} {image} so e = subst (Located b (a + image.count)) e so.located
 
-pub reading_numbered : {b : List ℕ} {a n at : ℕ} {image : Image} → Reading b a n image at → at < length b → Numbered b at
-reading_numbered so h = let r = reading_held so h in record { number = r.number; here = r.here; most = r.most }
+pub reading_numbered : {b : List ℕ} {a n at : ℕ} {image : Image} {next : Option ℕ} → Reading b a n image next → next ≡ Some at → Numbered b at
+reading_numbered so e = let r = reading_held so e in record { number = r.number; here = r.here; most = r.most }
 
-pub reading_more : {b : List ℕ} {a n x at : ℕ} {image : Image} → n ≤ 8 → Gathered b a n image → (image.count ≡ n → ⊥) → ((image.count ≡ n → ⊥) → a + image.count ≡ x)
-    → Located b x at → Reading b a n image at
-reading_more {b} {a} {n} {x} {at} {image} few so z e h = record { gathered = so; located = subst (λ (y : ℕ). Located b y at) (sym (e z)) h; low = omega (arith, so.most, z) }
+pub reading_end : {b : List ℕ} {a n : ℕ} {image : Image} {next : Option ℕ} → Reading b a n image next → next ≡ None → ReadFrom b a n image
+reading_end {b} {a} {n} {image} so e = read_end so.gathered (subst (Located b (a + image.count)) e so.located)
+
+pub reading_more : {b : List ℕ} {a n x : ℕ} {image : Image} {next : Option ℕ} → n ≤ 8 → Gathered b a n image → (image.count ≡ n → ⊥) → ((image.count ≡ n → ⊥) → a + image.count ≡ x)
+    → Located b x next → Reading b a n image next
+reading_more {b} {a} {n} {x} {image} {next} few so z e h = record { gathered = so; located = subst (λ (y : ℕ). Located b y next) (sym (e z)) h; low = omega (arith, so.most, z) }
+
+-- what is left of the body from a region on, if there is one
+abbrev pub rest_of : List ℕ → Option ℕ → ℕ
+rest_of b None = 0
+rest_of b (Some i) = suc (length b - i)
+
+pub rest_less : (b : List ℕ) (at : ℕ) (next next' : Option ℕ) → next ≡ Some at → at < length b → IfSome next' (λ i. at < i) → rest_of b next' < rest_of b next
+rest_less b at next None e h l = rw e (omega arith)
+rest_less b at next (Some i) e h l = rw e (omega arith)

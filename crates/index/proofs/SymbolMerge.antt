@@ -1,6 +1,7 @@
 -- How the index of symbols grows, name by name of the routine. Assumes nothing.
 use mathlib.Core.Path.{◌≡◌, refl, sym, ap, subst, ◌∙◌}
 use mathlib.Core.List.{List, []}
+use Rattle.std.specs.Prelude.{Option}
 use Prim.Native.Nat.{ℕ, ◌+◌, ◌*◌, ◌≤◌, ◌<◌}
 use native.Mathlib.Nat.{le_antisymm, lt_of_not-le, le_of_suc-le-suc}
 use native.Mathlib.Omega.{arith}
@@ -14,7 +15,7 @@ use Rattle.files.specs.Program.{texts_in}
 use Rattle.index.specs.declared.symbols.Cursor.{Cursor}
 use Rattle.index.specs.Places.{place_from, text_size}
 use Rattle.index.specs.Texts.{text_count, Texts, TextAt}
-use Rattle.index.specs.Symbols.{symbols_room, symbol_named, entry_symbol, SymbolsIndexed, Symbols, name_of, Passed, Standing, Sought}
+use Rattle.index.specs.Symbols.{symbols_room, symbol_named, entry_symbol, SymbolsIndexed, Symbols, name_of, entry_of, Passed, Standing, Sought}
 use Rattle.index.proofs.PlaceLaws.{place_order, place_next, place_strict}
 use Rattle.index.proofs.EntryLaws.{Entries, length_put, entries_more}
 use Rattle.index.proofs.TextPlaces.{text_some, text_inside, names_texts}
@@ -35,7 +36,7 @@ pub record Merging (R W S part : List ℕ) (cursor : Cursor) (at count : ℕ) : 
   pub passed : (m : ℕ) → count ≤ m → m < text_count R → Passed W S cursor.symbol (get_or (texts_in R) m [])
   pub entries : Entries part (λ k. k * 2) (Entry R W S) count
 
-pub merge_none : {R W S part : List ℕ} → symbols_room ≤ length part → Merging R W S part (record { symbol = 0; name = 0; at = 0; entry = 0 }) 0 0
+pub merge_none : {R W S part : List ℕ} → symbols_room ≤ length part → Merging R W S part (record { symbol = 0; name = 0; at = 0 }) 0 0
 unfolding place_from
 merge_none room = record {
   here = refl;
@@ -68,21 +69,21 @@ module _ {R W S part : List ℕ} {cursor : Cursor} {at count : ℕ} (names : 1 �
       pub merge_passed : Passed W S cursor.symbol t
       merge_passed = subst (Passed W S cursor.symbol) (sym its_name) (so.passed count (omega arith) one_more)
 
-      pub merge_more : {part' : List ℕ} {cursor' : Cursor} → ((i : ℕ) → Fits w8 (get_or R i 0)) → Symbols W S → Sought W S t cursor' → part' ≡ put_number part (count * 2) 2 cursor'.entry
+      pub merge_more : {part' : List ℕ} {cursor' : Cursor} {k : Option ℕ} {x : ℕ} → ((i : ℕ) → Fits w8 (get_or R i 0)) → Symbols W S → Sought W S t cursor' k → x ≡ entry_of k → part' ≡ put_number part (count * 2) 2 x
           → Merging R W S part' cursor' (at + length t + 1) (count + 1)
-      merge_more {part'} {cursor'} bytes ok found e = record {
+      merge_more {part'} {cursor'} {k} {x} bytes ok found ex e = record {
         here = ap (λ (n : ℕ). at + n + 1) text.size ∙ omega (arith, place_next (text_size R) 0 count, ap (λ (i : ℕ). i + text_size R i) so.here);
         most = omega (arith, one_more);
         few = omega (arith, one_more, texts.few);
-        room = omega (arith, ap length e ∙ length_put part (count * 2) 2 cursor'.entry, so.room);
+        room = omega (arith, ap length e ∙ length_put part (count * 2) 2 x, so.room);
         standing = found.standing;
         passed = λ m l g. record {
           each = λ k j. before_trans (name_of W S k) t (get_or (texts_in R) m []) (found.passed.each k j)
               (rw its_name (names_ascend R names short (each_byte R (λ i. (bytes i).fits)) count m (omega arith) g));
         };
         entries = subst (λ (s : List ℕ). Entries s (λ k. k * 2) (Entry R W S) (count + 1)) (sym e)
-            (entries_more part (λ k. k * 2) (Entry R W S) count so.entries (count * 2) (λ k g. omega arith) cursor'.entry refl merge_room
-            (omega (arith, found.inside, ok.few)) (found.inside, rw its_name at found.tells));
+            (entries_more part (λ k. k * 2) (Entry R W S) count so.entries (count * 2) (λ k g. omega arith) x refl merge_room
+            (omega (arith, ex, found.inside, ok.few)) (omega (arith, ex, found.inside), rw ex (rw its_name at found.tells)));
       }
 
   pub merge_done : length R ≤ at → SymbolsIndexed R W S part

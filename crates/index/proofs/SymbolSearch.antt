@@ -2,11 +2,10 @@
 use mathlib.Core.Path.{◌≡◌, refl, sym, ap, ap₂, subst, ◌∙◌}
 use mathlib.Core.Bool.{Bool, true, false}
 use mathlib.Core.List.{List, [], ◌∷◌}
-use mathlib.Core.Option.{none, some}
+use Rattle.std.specs.Prelude.{None, Some}
 use mathlib.Core.Logic.{⊎_elim}
 use Prim.Native.Nat.{ℕ, zero, suc, ◌+◌, ◌-◌, ◌*◌, ◌/◌, ◌%◌, ◌≤◌, ◌<◌}
 use native.Mathlib.Nat.{not-suc-le-zero, eq-or-lt_of_le}
-use native.Mathlib.Numerals.{add-one}
 use native.Mathlib.Omega.{arith}
 use mir.Syntax.{w8}
 use mir.Val.{Fits}
@@ -22,11 +21,13 @@ use Rattle.files.specs.Names.{before}
 use Rattle.files.specs.Refusal.{names_of}
 use Rattle.files.specs.Program.{texts_in}
 use Rattle.files.specs.World.{Symbol, symbol, symbol_of}
-use Rattle.index.specs.declared.symbols.Ordering.{Ordering}
-use Rattle.index.specs.declared.symbols.Ordering.TheVariants.{Less, Equal, Greater}
+use Rattle.std.specs.Cmp.Lexicographic.{slice_cmp}
+use Rattle.std.specs.Ordering.{nat_cmp}
+use Rattle.std.specs.declared.cmp.Ordering.{Ordering}
+use Rattle.std.specs.declared.cmp.Ordering.TheVariants.{Less, Equal, Greater}
 use Rattle.index.specs.Places.{place_from, text_size}
 use Rattle.index.specs.Texts.{text_count, Texts, TextAt}
-use Rattle.index.specs.Symbols.{symbol_at, entry_symbol, Symbols, name_of, Passed, Standing, Sought, order_of}
+use Rattle.index.specs.Symbols.{symbol_at, Symbols, name_of, Passed, Standing, Sought}
 use Rattle.index.proofs.PlaceLaws.{place_add, place_mono, place_even}
 use Rattle.index.proofs.BodyLaws.{whole_length, whole_at, drop_to}
 use Rattle.index.proofs.TextPlaces.{text_inside, names_texts, names_count}
@@ -62,17 +63,17 @@ module _ (names : List (List ℕ)) (name : List ℕ) (d : Symbol) where
   unfolding symbol_of
   symbol_miss s ss e = rw (e, symbol_of)
 
-  symbol_hit : (s : Symbol) (ss : List Symbol) → same (get_or names s.0 []) name ≡ true → symbol_of names (s ∷ ss) name ≡ some s
+  symbol_hit : (s : Symbol) (ss : List Symbol) → same (get_or names s.0 []) name ≡ true → symbol_of names (s ∷ ss) name ≡ Some s
   unfolding symbol_of
   symbol_hit s ss e = rw (e, symbol_of)
 
   symbol_found : (ss : List Symbol) (k : ℕ) → k < length ss → ((j : ℕ) → j < k → same (get_or names (get_or ss j d).0 []) name ≡ false)
-      → same (get_or names (get_or ss k d).0 []) name ≡ true → symbol_of names ss name ≡ some (get_or ss k d)
+      → same (get_or names (get_or ss k d).0 []) name ≡ true → symbol_of names ss name ≡ Some (get_or ss k d)
   symbol_found [] k l h e = absurd (not-suc-le-zero l)
   symbol_found (s ∷ ss) zero l h e = symbol_hit s ss e
   symbol_found (s ∷ ss) (suc k) l h e = symbol_miss s ss (h 0 (omega arith)) ∙ symbol_found ss k (omega arith) (λ j g. h (suc j) (omega arith)) e
 
-  symbol_missing : (ss : List Symbol) → ((j : ℕ) → j < length ss → same (get_or names (get_or ss j d).0 []) name ≡ false) → symbol_of names ss name ≡ none
+  symbol_missing : (ss : List Symbol) → ((j : ℕ) → j < length ss → same (get_or names (get_or ss j d).0 []) name ≡ false) → symbol_of names ss name ≡ None
   unfolding symbol_of
   symbol_missing [] h = refl
   symbol_missing (s ∷ ss) h = symbol_miss s ss (h 0 (omega arith)) ∙ symbol_missing ss (λ j g. h (suc j) (omega arith))
@@ -86,13 +87,13 @@ module _ (W S name : List ℕ) (h : length S % 11 ≡ 0) where
   other k l e = ap (λ (s : Symbol). same (get_or (texts_in W) s.0 []) name) (symbol_at_lem S h k nothing l) ∙ e
 
   pub first_symbol : (k : ℕ) → k < length S / 11 → ((j : ℕ) → j < k → same (name_of W S j) name ≡ false) → same (name_of W S k) name ≡ true
-      → symbol_of (texts_in W) (whole symbol S) name ≡ some (symbol_at S k)
+      → symbol_of (texts_in W) (whole symbol S) name ≡ Some (symbol_at S k)
   first_symbol k l g e =
       symbol_found (texts_in W) name nothing (whole symbol S) k (rw (symbols_length S h) l) (λ j m. other j (omega arith) (g j m))
       (ap (λ (s : Symbol). same (get_or (texts_in W) s.0 []) name) (symbol_at_lem S h k nothing l) ∙ e)
-      ∙ ap (λ (s : Symbol). some s) (symbol_at_lem S h k nothing l)
+      ∙ ap (λ (s : Symbol). Some s) (symbol_at_lem S h k nothing l)
 
-  pub no_symbol : ((j : ℕ) → j < length S / 11 → same (name_of W S j) name ≡ false) → symbol_of (texts_in W) (whole symbol S) name ≡ none
+  pub no_symbol : ((j : ℕ) → j < length S / 11 → same (name_of W S j) name ≡ false) → symbol_of (texts_in W) (whole symbol S) name ≡ None
   no_symbol g = symbol_missing (texts_in W) name nothing (whole symbol S) (λ j m. other j (rw (symbols_length S h) at m) (g j (rw (symbols_length S h) at m)))
 
 -- ---- a turn of the search
@@ -155,26 +156,25 @@ module _ {W S : List ℕ} (ok : Symbols W S) where
           most = omega (arith, seek_whole h);
         }
 
-        module _ {t name : List ℕ} {r : Ordering} (here : TextAt W at' t) (passed : Passed W S symbol name) (o : r ≡ order_of t name) where
+        module _ {t name : List ℕ} {r : Ordering} (here : TextAt W at' t) (passed : Passed W S symbol name) (o : r ≡ slice_cmp nat_cmp t name) where
           its_name : t ≡ name_of W S symbol
           its_name = here.is w texts wanted (g ∙ there) ∙ ap (λ (n : ℕ). get_or (texts_in W) n []) e
 
-          order : r ≡ order_of (name_of W S symbol) name
-          order = o ∙ ap (λ (s : List ℕ). order_of s name) its_name
+          order : r ≡ slice_cmp nat_cmp (name_of W S symbol) name
+          order = o ∙ ap (λ (s : List ℕ). slice_cmp nat_cmp s name) its_name
 
           pub seek_passes : r ≡ Less → Passed W S (symbol + 1) name
           seek_passes z = passed_more W S name symbol passed (told_less (name_of W S symbol) name r order z)
 
-          pub seek_equal : r ≡ Equal → Sought W S name (record { symbol = symbol; name = w; at = at'; entry = symbol + 1 })
+          pub seek_equal : r ≡ Equal → Sought W S name (record { symbol = symbol; name = w; at = at' }) (Some symbol)
           seek_equal z = record {
             standing = standing;
             passed = passed;
             inside = omega (arith, seek_whole h);
-            tells = ap (entry_symbol S) (add-one symbol)
-                ∙ sym (first_symbol W S name whole_symbols symbol is_one (λ j l. (before_differs (name_of W S j) name (passed.each j l)).0) (told_equal (name_of W S symbol) name r order z));
+            tells = sym (first_symbol W S name whole_symbols symbol is_one (λ j l. (before_differs (name_of W S j) name (passed.each j l)).0) (told_equal (name_of W S symbol) name r order z));
           }
 
-          pub seek_greater : ((i : ℕ) → Fits w8 (get_or W i 0)) → r ≡ Greater → Sought W S name (record { symbol = symbol; name = w; at = at'; entry = 0 })
+          pub seek_greater : ((i : ℕ) → Fits w8 (get_or W i 0)) → r ≡ Greater → Sought W S name (record { symbol = symbol; name = w; at = at' }) None
           seek_greater bytes z = record {
             standing = standing;
             passed = passed;
@@ -194,7 +194,7 @@ module _ {W S : List ℕ} (ok : Symbols W S) where
                   (eq-or-lt_of_le (ltb-false j symbol p))
 
     -- past the last symbol
-    pub seek_end : {name : List ℕ} → length S ≤ symbol * 11 → Passed W S symbol name → Sought W S name (record { symbol = symbol; name = number; at = at; entry = 0 })
+    pub seek_end : {name : List ℕ} → length S ≤ symbol * 11 → Passed W S symbol name → Sought W S name (record { symbol = symbol; name = number; at = at }) None
     seek_end {name} l passed = record {
       standing = so;
       passed = passed;

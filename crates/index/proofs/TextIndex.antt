@@ -1,7 +1,7 @@
 -- How the index of texts grows, and what it tells. Assumes nothing.
 use mathlib.Core.Path.{◌≡◌, refl, sym, ap, subst, ◌∙◌}
 use mathlib.Core.List.{List, []}
-use Prim.Native.Nat.{ℕ, suc, ◌+◌, ◌-◌, ◌*◌, ◌≤◌, ◌<◌}
+use Prim.Native.Nat.{ℕ, ◌+◌, ◌-◌, ◌*◌, ◌≤◌, ◌<◌}
 use native.Mathlib.Nat.{le_antisymm, lt_of_not-le, le_of_suc-le-suc}
 use native.Mathlib.Omega.{arith}
 use mir.Syntax.{w8}
@@ -75,17 +75,9 @@ text_read {b} {at} {n} inside bytes g =
 
 -- ---- texts that are passed by
 
-module _ (b : List ℕ) (at left : ℕ) (h : 0 < left) where
-  pub skip_inside : {r : ℕ} → r ≡ place_from (text_size b) at left → r ≤ length b → at < length b
-  unfolding place_from
-  skip_inside g l =
-      let q : left ≡ suc (left - 1) = omega arith in
-      let e = ap (place_from (text_size b) at) q in
-      omega (arith, g, l, e, place_mono (text_size b) (at + text_size b at) 0 (left - 1) (omega arith))
+module _ (b : List ℕ) (at i steps : ℕ) (h : i < steps) {p : ℕ} (e : p ≡ place_from (text_size b) at i) where
+  pub skip_inside : place_from (text_size b) at steps ≤ length b → p + text_size b p ≤ length b
+  skip_inside l = omega (arith, l, ap (λ (j : ℕ). j + text_size b j) e, place_next (text_size b) at i, place_mono (text_size b) at (i + 1) steps (omega arith))
 
-  pub skip_on : {n r : ℕ} → r ≡ place_from (text_size b) at left → n ≡ number_at b at 1 → r ≡ place_from (text_size b) (at + n + 1) (left - 1)
-  unfolding place_from
-  skip_on {n} e g =
-      let q : left ≡ suc (left - 1) = omega arith in
-      let p : at + text_size b at ≡ at + n + 1 = omega (arith, g) in
-      e ∙ ap (place_from (text_size b) at) q ∙ ap (λ (i : ℕ). place_from (text_size b) i (left - 1)) p
+  pub skip_next : {n : ℕ} → n ≡ number_at b p 1 → p + n + 1 ≡ place_from (text_size b) at (i + 1)
+  skip_next {n} g = omega (arith, g, ap (λ (j : ℕ). j + text_size b j) e, place_next (text_size b) at i)

@@ -7,7 +7,6 @@ use Rattle.index.specs.declared.blocks.Place.{Place}
 use Rattle.index.specs.declared.blocks.Statement.{Statement}
 use Rattle.index.specs.declared.blocks.Terminator.{Terminator}
 use Rattle.index.specs.declared.blocks.Terminator.TheVariants.{Return, Goto, Branch, Switch}
-use Rattle.index.specs.Answers.{option_of}
 use Rattle.index.specs.Places.{place_from, block_size}
 
 -- the bytes of the index: four for each of at most 2,730 blocks
@@ -68,8 +67,8 @@ pub record Placed (part : List ℕ) (k : ℕ) (p : Place) : Type 0 where
 abbrev pub terminator_as : List ℕ → List ℕ → ℕ → Terminator → program.Terminator
 terminator_as nodes b i Return = returns
 terminator_as nodes b i (Goto target) = goto target
-terminator_as nodes b i (Branch address root taken next) = branch (option_of address) (tree_at nodes root) taken next
-terminator_as nodes b i (Switch address root count) = switch (option_of address) (tree_at nodes root) (listed (case_at b (i + 24)) 0 count)
+terminator_as nodes b i (Branch address root taken next) = branch address (tree_at nodes root) taken next
+terminator_as nodes b i (Switch address root count) = switch address (tree_at nodes root) (listed (case_at b (i + 24)) 0 count)
 
 abbrev pub cases_in : Terminator → ℕ
 cases_in Return = 0
@@ -84,6 +83,6 @@ pub record Ends (b : List ℕ) (i : ℕ) (t : Terminator) : Type 0 where
 
 -- a statement that the code gives is statement k
 pub record States (b : List ℕ) (k : ℕ) (s : Statement) : Type 0 where
-  pub address : (nodes : List ℕ) → (statement_at nodes b k).address ≡ option_of s.address
+  pub address : (nodes : List ℕ) → (statement_at nodes b k).address ≡ s.address
   pub root : (nodes : List ℕ) → (statement_at nodes b k).root ≡ tree_at nodes s.root
   pub node : s.root ≡ number_at b (k * 13 + 9) 4

@@ -1,5 +1,4 @@
 pub mod Places
-pub mod Answers
 pub mod Texts
 pub mod Blocks
 pub mod Symbols

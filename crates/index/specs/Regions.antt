@@ -1,6 +1,5 @@
 -- The index of a world's regions: for every fourth region, in two bytes, its place. Assumes nothing.
-use Rattle.std.specs.Prelude.{◌≡◌, List, ◌++◌, ℕ, suc, ◌+◌, ◌-◌, ◌*◌, ◌/◌, ◌^◌, ◌≤◌, ◌<◌, length}
-use Rattle.std.proofs.Math.Option.{none}
+use Rattle.std.specs.Prelude.{◌≡◌, List, ◌++◌, ℕ, suc, ◌+◌, ◌-◌, ◌*◌, ◌/◌, ◌^◌, ◌≤◌, ◌<◌, length, Option, None, Some}
 use Rattle.layout.specs.Number.{le, number_at}
 use Rattle.layout.specs.Format.{whole}
 use Rattle.files.specs.World.{region, byte_at, bytes_from}
@@ -82,10 +81,10 @@ pub record Holding (b : List ℕ) (a i : ℕ) : Type 0 where
   pub low : start_at b i ≤ a
   pub high : a < end_at b i
 
--- the region of an address was found, or there is none
-pub record Located (b : List ℕ) (a i : ℕ) : Type 0 where
-  pub found : i < length b → Holding b a i
-  pub missing : length b ≤ i → byte_at (whole region b) a ≡ none
+-- the region of an address, if there is one
+abbrev pub Located : List ℕ → ℕ → Option ℕ → Type 0
+Located b a None = byte_at (whole region b) a ≡ None
+Located b a (Some i) = Holding b a i
 
 -- ---- the answer
 

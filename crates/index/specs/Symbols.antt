@@ -1,19 +1,13 @@
 -- The index of symbols: for each name of the routine, in two bytes, 0 or 1 more than the number of the world's symbol of that name. Assumes nothing.
-use Rattle.std.specs.Prelude.{◌≡◌, Bool, true, false, List, [], ℕ, zero, suc, ◌+◌, ◌*◌, ◌≤◌, ◌<◌, length, get_or}
-use Rattle.std.proofs.Math.Option.{Option, none, some}
+use Rattle.std.specs.Prelude.{◌≡◌, true, List, [], ℕ, zero, suc, ◌+◌, ◌*◌, ◌≤◌, ◌<◌, length, get_or, Option, None, Some}
 use Rattle.layout.specs.Number.{number_at}
 use Rattle.layout.specs.Format.{whole}
-use Rattle.layout.specs.Text.{same}
 use Rattle.files.specs.Names.{before, names_in}
 use Rattle.files.specs.WorldFile.{symbols_ok}
 use Rattle.files.specs.Refusal.{names_of}
 use Rattle.files.specs.Program.{texts_in}
 use Rattle.files.specs.World.{Symbol, symbol, symbol_of, address_in, size_in}
-use Rattle.index.specs.declared.Maybe.{Maybe}
 use Rattle.index.specs.declared.symbols.Cursor.{Cursor}
-use Rattle.index.specs.declared.symbols.Ordering.{Ordering}
-use Rattle.index.specs.declared.symbols.Ordering.TheVariants.{Less, Equal, Greater}
-use Rattle.index.specs.Answers.{maybe_of}
 use Rattle.index.specs.Places.{place_from, text_size}
 use Rattle.index.specs.Texts.{text_count}
 
@@ -31,8 +25,18 @@ symbol_at b k = (number_at b (k * 11) 2, (number_at b (k * 11 + 2) 1, number_at 
 
 -- what an entry tells
 abbrev pub entry_symbol : List ℕ → ℕ → Option Symbol
-entry_symbol b zero = none
-entry_symbol b (suc k) = some (symbol_at b k)
+entry_symbol b zero = None
+entry_symbol b (suc k) = Some (symbol_at b k)
+
+-- where its symbol is
+abbrev pub symbol_place : ℕ → Option ℕ
+symbol_place zero = None
+symbol_place (suc k) = Some (k * 11)
+
+-- the entry that tells of a symbol by its number
+abbrev pub entry_of : Option ℕ → ℕ
+entry_of None = 0
+entry_of (Some k) = suc k
 
 -- the entry of a name, and its symbol, can be read
 pub record SymbolInside (symbols part : List ℕ) (n : ℕ) : Type 0 where
@@ -53,11 +57,11 @@ pub record Symbols (world_names symbols : List ℕ) : Type 0 where
 
 -- ---- answers, of whatever names the part is the index of
 
-pub record AddressOf (symbols part : List ℕ) (n : ℕ) (r : Maybe) : Type 0 where
-  pub is : (R W : List ℕ) → SymbolsIndexed R W symbols part → n < text_count R → r ≡ maybe_of (address_in (symbol_named R W symbols n))
+pub record AddressOf (symbols part : List ℕ) (n : ℕ) (r : Option ℕ) : Type 0 where
+  pub is : (R W : List ℕ) → SymbolsIndexed R W symbols part → n < text_count R → r ≡ address_in (symbol_named R W symbols n)
 
-pub record SizeOf (symbols part : List ℕ) (n : ℕ) (r : Maybe) : Type 0 where
-  pub is : (R W : List ℕ) → SymbolsIndexed R W symbols part → n < text_count R → r ≡ maybe_of (size_in (symbol_named R W symbols n))
+pub record SizeOf (symbols part : List ℕ) (n : ℕ) (r : Option ℕ) : Type 0 where
+  pub is : (R W : List ℕ) → SymbolsIndexed R W symbols part → n < text_count R → r ≡ size_in (symbol_named R W symbols n)
 
 -- ---- the merge: both name lists ascend, and so do the symbols
 
@@ -75,19 +79,9 @@ pub record Standing (world_names symbols : List ℕ) (symbol name at : ℕ) : Ty
   pub below : symbol * 11 < length symbols → name ≤ number_at symbols (symbol * 11) 2
   pub most : symbol * 11 ≤ length symbols
 
--- a name was sought
-pub record Sought (world_names symbols name : List ℕ) (c : Cursor) : Type 0 where
+-- a name was sought, and a symbol of it found or not
+pub record Sought (world_names symbols name : List ℕ) (c : Cursor) (found : Option ℕ) : Type 0 where
   pub standing : Standing world_names symbols c.symbol c.name c.at
   pub passed : Passed world_names symbols c.symbol name
-  pub inside : c.entry * 11 ≤ length symbols
-  pub tells : entry_symbol symbols c.entry ≡ symbol_of (texts_in world_names) (whole symbol symbols) name
-
--- ---- how two names compare: "strictly ascending as bytes, a name before any longer one that it begins"
-
-abbrev pub ordered : (before same : Bool) → Ordering
-ordered true t = Less
-ordered false true = Equal
-ordered false false = Greater
-
-abbrev pub order_of : List ℕ → List ℕ → Ordering
-order_of a b = ordered (before a b) (same a b)
+  pub inside : entry_of found * 11 ≤ length symbols
+  pub tells : entry_symbol symbols (entry_of found) ≡ symbol_of (texts_in world_names) (whole symbol symbols) name

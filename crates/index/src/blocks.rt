@@ -2,25 +2,16 @@
 ghost use Rattle.std.specs.Prelude.{◌≡◌, ◌+◌, ◌*◌, ◌≤◌, ◌<◌, length, get_or};
 ghost use Rattle.layout.specs.Number.{number_at};
 ghost use Rattle.files.specs.Program.{case_of, flagged, listed, case_at};
-ghost use Rattle.index.specs.Answers.{maybe_of};
 ghost use Rattle.index.specs.Places.{block_size};
 ghost use Rattle.index.specs.Blocks.{blocks_room, BlockInside, Blocks, BlocksIndexed, BlockTold, Placed, Ends, States};
 
-use crate::Maybe;
+use files::blocks::{BLOCK, CASE, STATEMENT};
 
 // The bytes of the index: at most 2,730 blocks of at least 24 bytes.
 pub const BLOCKS: usize = 10920;
 
 // The bytes of an entry of the index.
 const ENTRY: usize = 4;
-
-// The bytes of a block before its cases, and of a case.
-const BLOCK: usize = 24;
-
-const CASE: usize = 12;
-
-// The bytes of a statement.
-const STATEMENT: usize = 13;
 
 // Where a block starts in its body, and which is its first statement.
 #[derive(Clone, Copy)]
@@ -34,13 +25,13 @@ pub enum Terminator {
     Return,
     Goto(usize),
     Branch {
-        address: Maybe,
+        address: Option<u64>,
         root: usize,
         taken: usize,
         next: usize,
     },
     Switch {
-        address: Maybe,
+        address: Option<u64>,
         root: usize,
         count: usize,
     },
@@ -48,7 +39,7 @@ pub enum Terminator {
 
 #[derive(Clone, Copy)]
 pub struct Statement {
-    pub address: Maybe,
+    pub address: Option<u64>,
     pub root: usize,
 }
 
@@ -67,23 +58,23 @@ fn byte(s: &[u8], at: usize) -> u64
 }
 
 // An address flag, then the address.
-fn address_at(s: &[u8], at: usize) -> Maybe
+fn address_at(s: &[u8], at: usize) -> Option<u64>
     requires { at + 9 ≤ length s.now }
-    ensures { result ≡ maybe_of (flagged (get_or s.now at 0) (number_at s.now (at + 1) 8)) }
+    ensures { result ≡ flagged (get_or s.now at 0) (number_at s.now (at + 1) 8) }
 {
     if byte(s, at) == 0 {
-        return Maybe::Nothing;
+        return None;
     }
-    Maybe::Known(layout::get64(s, at + 1))
+    Some(layout::get::<8>(s, at + 1))
 }
 
 // The bytes of the block at a place.
 fn block_size(blocks: &[u8], start: usize) -> usize
     requires { BlockInside blocks.now start }
-    ensures { (result ≡ block_size blocks.now start) × ((24 ≤ result) × (start + result ≤ length blocks.now)) }
+    ensures { (result ≡ block_size blocks.now start) × ((BLOCK ≤ result) × (start + result ≤ length blocks.now)) }
 {
     if byte(blocks, start + 2) == 3 {
-        return layout::get32(blocks, start + 16) as usize * CASE + BLOCK;
+        return layout::get::<4>(blocks, start + 16) as usize * CASE + BLOCK;
     }
     BLOCK
 }
@@ -93,10 +84,10 @@ pub fn statement_count(blocks: &[u8], start: usize) -> usize
     requires { BlockInside blocks.now start }
     ensures { (result ≡ number_at blocks.now start 2) × (result < 65536) }
 {
-    layout::get16(blocks, start) as usize
+    layout::get::<2>(blocks, start) as usize
 }
 
-// The index of the blocks, and how many there are.
+// The index of the blocks, and how many there are. (A loop by lengths: where the next block is only a block's own cases say.)
 pub fn fill_blocks(blocks: &[u8], part: &mut [u8]) -> usize
     requires { (Blocks blocks.now) × (blocks_room ≤ length part.old) }
     ensures { BlocksIndexed blocks.now part.new result }
@@ -108,8 +99,8 @@ pub fn fill_blocks(blocks: &[u8], part: &mut [u8]) -> usize
         let at = count * ENTRY;
         let after = first + statement_count(blocks, start);
         let end = start + block_size(blocks, start);
-        layout::put16(part, at, start as u64);
-        layout::put16(part, at + 2, first as u64);
+        layout::put::<2>(part, at, start as u64);
+        layout::put::<2>(part, at + 2, first as u64);
         first = after;
         start = end;
         count += 1;
@@ -123,8 +114,8 @@ pub fn block(part: &[u8], k: usize) -> Place
     ensures { Placed part.now k result }
 {
     Place {
-        start: layout::get16(part, k * ENTRY) as usize,
-        first: layout::get16(part, k * ENTRY + 2) as usize,
+        start: layout::get::<2>(part, k * ENTRY) as usize,
+        first: layout::get::<2>(part, k * ENTRY + 2) as usize,
     }
 }
 
@@ -135,9 +126,9 @@ pub fn terminator_at(blocks: &[u8], start: usize) -> Terminator
 {
     let kind = byte(blocks, start + 2);
     let address = address_at(blocks, start + 3);
-    let root = layout::get32(blocks, start + 12) as usize;
-    let taken = layout::get32(blocks, start + 16) as usize;
-    let next = layout::get32(blocks, start + 20) as usize;
+    let root = layout::get::<4>(blocks, start + 12) as usize;
+    let taken = layout::get::<4>(blocks, start + 16) as usize;
+    let next = layout::get::<4>(blocks, start + 20) as usize;
     match kind {
         0 => Terminator::Return,
         1 => Terminator::Goto(taken),
@@ -157,40 +148,38 @@ pub fn terminator_at(blocks: &[u8], start: usize) -> Terminator
 
 // Case k of the Switch whose block starts at a place.
 pub fn case_at(blocks: &[u8], start: usize, k: usize) -> Case
-    requires { start + 24 + k * 12 + 12 ≤ length blocks.now }
-    ensures { (result.value ≡ (case_at blocks.now (start + 24) k).value) × (result.target ≡ (case_at blocks.now (start + 24) k).target) }
+    requires { start + BLOCK + k * CASE + CASE ≤ length blocks.now }
+    ensures { (result.value ≡ (case_at blocks.now (start + BLOCK) k).value) × (result.target ≡ (case_at blocks.now (start + BLOCK) k).target) }
 {
     let at = start + BLOCK + k * CASE;
     Case {
-        value: layout::get64(blocks, at),
-        target: layout::get32(blocks, at + 8) as usize,
+        value: layout::get::<8>(blocks, at),
+        target: layout::get::<4>(blocks, at + 8) as usize,
     }
 }
 
 // The target of the first of a Switch's cases that has a value, both as 64 bits.
-pub fn case_of(blocks: &[u8], start: usize, count: usize, value: u64) -> Maybe
-    requires { start + 24 + count * 12 ≤ length blocks.now }
-    ensures { result ≡ maybe_of (case_of (listed (case_at blocks.now (start + 24)) 0 count) value) }
+pub fn case_of(blocks: &[u8], start: usize, count: usize, value: u64) -> Option<usize>
+    requires { start + BLOCK + count * CASE ≤ length blocks.now }
+    ensures { result ≡ case_of (listed (case_at blocks.now (start + BLOCK)) 0 count) value }
 {
-    let mut k = 0;
-    while k < count {
+    for k in 0..count {
         let case = case_at(blocks, start, k);
         if case.value == value {
-            return Maybe::Known(case.target as u64);
+            return Some(case.target);
         }
-        k += 1;
     }
-    Maybe::Nothing
+    None
 }
 
 // Statement k.
 pub fn statement_at(statements: &[u8], k: usize) -> Statement
-    requires { k * 13 + 13 ≤ length statements.now }
+    requires { k * STATEMENT + STATEMENT ≤ length statements.now }
     ensures { States statements.now k result }
 {
     let at = k * STATEMENT;
     Statement {
         address: address_at(statements, at),
-        root: layout::get32(statements, at + 9) as usize,
+        root: layout::get::<4>(statements, at + 9) as usize,
     }
 }

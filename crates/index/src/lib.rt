@@ -6,10 +6,3 @@ pub mod blocks;
 pub mod regions;
 pub mod symbols;
 pub mod texts;
-
-// A number that may be missing.
-#[derive(Clone, Copy)]
-pub enum Maybe {
-    Known(u64),
-    Nothing,
-}

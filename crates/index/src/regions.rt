@@ -1,8 +1,9 @@
 // The bytes of a world at an address. The index: for every fourth region, in two bytes, its place.
-ghost use Rattle.std.specs.Prelude.{◌≡◌, cond, min, ◌+◌, ◌*◌, ◌/◌, ◌%◌, ◌≤◌, ◌<◌, length, eqb};
+ghost use Rattle.std.specs.Prelude.{◌≡◌, cond, IfSome, ◌+◌, ◌*◌, ◌/◌, ◌%◌, ◌≤◌, ◌<◌, length, eqb};
 ghost use Rattle.layout.specs.Number.{number_at, put_number};
 ghost use Rattle.index.specs.Regions.{stride, regions_room, RegionInside, LengthOf, Regions, RegionsIndexed, From, Numbered, Holding, Located, Gathered, ReadFrom, end_at};
 
+use files::world::REGION;
 use memory::Image;
 
 // The bytes of the index: at most 5,041 regions of at least 13 bytes, so 1,261 entries.
@@ -11,15 +12,12 @@ pub const REGIONS: usize = 2522;
 // One region in so many is in the index.
 const STRIDE: usize = 4;
 
-// The bytes of a region before its own.
-const HEADER: usize = 12;
-
 // The first address of the region at a place.
 fn start_of(regions: &[u8], at: usize) -> u64
     requires { RegionInside regions.now at }
     ensures { result ≡ number_at regions.now at 8 }
 {
-    layout::get64(regions, at)
+    layout::get::<8>(regions, at)
 }
 
 // How many bytes the region at a place has.
@@ -27,7 +25,7 @@ fn length_of(regions: &[u8], at: usize) -> u64
     requires { RegionInside regions.now at }
     ensures { LengthOf regions.now at result }
 {
-    layout::get32(regions, at + 8)
+    layout::get::<4>(regions, at + 8)
 }
 
 // Region k, at a place, goes into the index if it is one of those that do.
@@ -36,46 +34,25 @@ fn mark(part: &mut [u8], k: usize, at: usize)
     ensures { part.new ≡ cond (eqb (k % stride) 0) (put_number part.old (k / stride * 2) 2 at) part.old }
 {
     if k % STRIDE == 0 {
-        layout::put16(part, k / STRIDE * 2, at as u64);
+        layout::put::<2>(part, k / STRIDE * 2, at as u64);
     }
 }
 
-// The smaller of two numbers.
-fn smaller(a: usize, b: u64) -> usize
-    ensures { result ≡ min a b }
-{
-    if (a as u64) < b { a } else { b as usize }
-}
-
-// The little-endian number of some bytes, at most 8, read from the last to the first.
-fn number_by_bytes(s: &[u8], at: usize, bytes: usize) -> u64
-    requires { (at + bytes ≤ length s.now) × (bytes ≤ 8) }
-    ensures { result ≡ number_at s.now at bytes }
-{
-    let mut number = 0;
-    let mut left = bytes;
-    while 0 < left {
-        left -= 1;
-        number = number * 256 + layout::get8(s, at + left);
-    }
-    number
-}
-
-// The same, with one load where they are as many as a load takes.
+// The number of some bytes, at most 8, with one load where they are as many as a load takes.
 fn number_at(s: &[u8], at: usize, bytes: usize) -> u64
     requires { (at + bytes ≤ length s.now) × (bytes ≤ 8) }
     ensures { result ≡ number_at s.now at bytes }
 {
     match bytes {
-        1 => layout::get8(s, at),
-        2 => layout::get16(s, at),
-        4 => layout::get32(s, at),
-        8 => layout::get64(s, at),
-        _ => number_by_bytes(s, at, bytes),
+        1 => layout::get::<1>(s, at),
+        2 => layout::get::<2>(s, at),
+        4 => layout::get::<4>(s, at),
+        8 => layout::get::<8>(s, at),
+        _ => layout::number_at(s, at, bytes),
     }
 }
 
-// The index of the regions, and how many entries it has.
+// The index of the regions, and how many entries it has. (A loop by lengths, as `locate`.)
 pub fn fill_regions(regions: &[u8], part: &mut [u8]) -> usize
     requires { (Regions regions.now) × (regions_room ≤ length part.old) }
     ensures { RegionsIndexed regions.now part.new result }
@@ -84,13 +61,14 @@ pub fn fill_regions(regions: &[u8], part: &mut [u8]) -> usize
     let mut count = 0;
     while at < regions.len() {
         mark(part, count, at);
-        at = at + length_of(regions, at) as usize + HEADER;
+        at = at + length_of(regions, at) as usize + REGION;
         count += 1;
     }
     (count + STRIDE - 1) / STRIDE
 }
 
-// A region before which none has an address: by the index, the last that starts by the address, or the first of all.
+// A region before which none has an address: by the index, the last that starts by the address, or the first of all. (The library's search wants the numbers
+// themselves in a slice; here the index gives places, and the regions the numbers.)
 fn nearest(regions: &[u8], part: &[u8], count: usize, address: u64) -> usize
     requires { (RegionsIndexed regions.now part.now count) × (1 ≤ count) }
     ensures { From regions.now address result }
@@ -99,18 +77,18 @@ fn nearest(regions: &[u8], part: &[u8], count: usize, address: u64) -> usize
     let mut high = count;
     while low + 1 < high {
         let middle = low + (high - low) / 2;
-        let at = layout::get16(part, middle * 2) as usize;
+        let at = layout::get::<2>(part, middle * 2) as usize;
         if start_of(regions, at) <= address {
             low = middle;
         } else {
             high = middle;
         }
     }
-    layout::get16(part, low * 2) as usize
+    layout::get::<2>(part, low * 2) as usize
 }
 
-// The region that has an address, from a region on; past the last if there is none.
-fn locate(regions: &[u8], from: usize, address: u64) -> usize
+// The region that has an address, from a region on. (A loop by lengths: where the next region is only a region's own length says.)
+fn locate(regions: &[u8], from: usize, address: u64) -> Option<usize>
     requires { (Regions regions.now) × (From regions.now address from) }
     ensures { Located regions.now address result }
 {
@@ -118,31 +96,32 @@ fn locate(regions: &[u8], from: usize, address: u64) -> usize
     while at < regions.len() {
         let start = start_of(regions, at);
         if address < start {
-            return regions.len();
+            return None;
         }
         let size = length_of(regions, at);
         if address - start < size {
-            return at;
+            return Some(at);
         }
-        at = at + size as usize + HEADER;
+        at = at + size as usize + REGION;
     }
-    regions.len()
+    None
 }
 
-// The region that starts where the one at a place ends; past the last if there is none.
-fn touching(regions: &[u8], at: usize) -> usize
+// The region that starts where the one at a place ends.
+fn touching(regions: &[u8], at: usize) -> Option<usize>
     requires { (Regions regions.now) × (Numbered regions.now at) }
-    ensures { (Located regions.now (end_at regions.now at) result) × (at < result) }
+    ensures located { Located regions.now (end_at regions.now at) result }
+    ensures past { IfSome result (λ next. at < next) }
 {
     let size = length_of(regions, at);
     let last = start_of(regions, at) + (size - 1);
-    let next = at + size as usize + HEADER;
+    let next = at + size as usize + REGION;
     if next < regions.len() {
         if start_of(regions, next) - last == 1 {
-            return next;
+            return Some(next);
         }
     }
-    regions.len()
+    None
 }
 
 // More bytes from an address on, those that the region at a place has.
@@ -154,8 +133,8 @@ fn gather(regions: &[u8], at: usize, address: u64, size: usize, image: Image) ->
     let start = start_of(regions, at);
     let length = length_of(regions, at);
     let offset = address + image.count as u64 - start;
-    let more = smaller(size - image.count, length - offset);
-    let number = number_at(regions, at + HEADER + offset as usize, more);
+    let more = (size - image.count).min((length - offset) as usize);
+    let number = number_at(regions, at + REGION + offset as usize, more);
     Image {
         count: image.count + more,
         number: image.number + (number << (8 * image.count)),
@@ -175,13 +154,13 @@ pub fn read(regions: &[u8], part: &[u8], count: usize, address: u64, size: usize
         return image;
     }
     let from = nearest(regions, part, count, address);
-    let mut at = locate(regions, from, address);
-    while at < regions.len() {
+    let mut next = locate(regions, from, address);
+    while let Some(at) = next {
         image = gather(regions, at, address, size, image);
         if image.count == size {
             return image;
         }
-        at = touching(regions, at);
+        next = touching(regions, at);
     }
     image
 }

@@ -1,88 +1,54 @@
 // The world's symbol of a routine's name. The index: for each name of the routine, in two bytes, 0 for no symbol, else 1 more than the symbol's number.
-ghost use Rattle.std.specs.Prelude.{◌≡◌, ◌+◌, ◌*◌, ◌≤◌, ◌<◌, length};
+ghost use Rattle.std.specs.Prelude.{◌≡◌, ◌+◌, ◌*◌, ◌^◌, ◌≤◌, ◌<◌, length};
+ghost use Rattle.layout.specs.Number.{number_at};
 ghost use Rattle.files.specs.Names.{names_in};
 ghost use Rattle.index.specs.Places.{place_from, text_size};
-ghost use Rattle.index.specs.Symbols.{symbols_room, Symbols, Standing, Passed, Sought, SymbolInside, SymbolsIndexed, AddressOf, SizeOf, order_of};
+ghost use Rattle.index.specs.Symbols.{symbols_room, symbol_place, entry_of, Symbols, Standing, Passed, Sought, SymbolInside, SymbolsIndexed, AddressOf, SizeOf};
 
-use crate::Maybe;
 use crate::texts::text_at;
+use files::world::SYMBOL;
+use std::cmp::Ordering;
 
 // The bytes of the index: at most 512 names.
 pub const SYMBOLS: usize = 1024;
 
-// The bytes of a symbol.
-const SYMBOL: usize = 11;
-
-// How two names compare.
-#[derive(Clone, Copy)]
-enum Ordering {
-    Less,
-    Equal,
-    Greater,
-}
-
-// Where the search for a name stands: before a symbol, at a world name not past that symbol's; and the entry of the name sought last.
+// Where the search for a name stands: before a symbol, at a world name not past that symbol's.
 #[derive(Clone, Copy)]
 struct Cursor {
     symbol: usize,
     name: usize,
     at: usize,
-    entry: usize,
+}
+
+// Where the symbol of a name is.
+fn place_of(part: &[u8], name: usize) -> Option<usize>
+    requires { name * 2 + 2 ≤ length part.now }
+    ensures { result ≡ symbol_place (number_at part.now (name * 2) 2) }
+{
+    let symbol = (layout::get::<2>(part, name * 2) as usize).checked_sub(1)?;
+    Some(symbol * SYMBOL)
 }
 
 // The address of the symbol of a name.
-pub fn address_of(symbols: &[u8], part: &[u8], name: usize) -> Maybe
+pub fn address_of(symbols: &[u8], part: &[u8], name: usize) -> Option<u64>
     requires { SymbolInside symbols.now part.now name }
     ensures { AddressOf symbols.now part.now name result }
 {
-    let entry = layout::get16(part, name * 2) as usize;
-    if entry == 0 {
-        return Maybe::Nothing;
-    }
-    let at = (entry - 1) * SYMBOL;
-    Maybe::Known(layout::get64(symbols, at + 3))
+    let at = place_of(part, name)?;
+    Some(layout::get::<8>(symbols, at + 3))
 }
 
 // Its size, where it is told.
-pub fn size_of(symbols: &[u8], part: &[u8], name: usize) -> Maybe
+pub fn size_of(symbols: &[u8], part: &[u8], name: usize) -> Option<u64>
     requires { SymbolInside symbols.now part.now name }
     ensures { SizeOf symbols.now part.now name result }
 {
-    let entry = layout::get16(part, name * 2) as usize;
-    if entry == 0 {
-        return Maybe::Nothing;
-    }
-    let at = (entry - 1) * SYMBOL;
-    let size = layout::get8(symbols, at + 2);
+    let at = place_of(part, name)?;
+    let size = layout::get::<1>(symbols, at + 2);
     if size == 0 {
-        return Maybe::Nothing;
+        return None;
     }
-    Maybe::Known(size)
-}
-
-// Two names, byte by byte.
-fn compare(a: &[u8], b: &[u8]) -> Ordering
-    ensures { result ≡ order_of a.now b.now }
-{
-    let mut i = 0;
-    while i < a.len() {
-        if b.len() <= i {
-            return Ordering::Greater;
-        }
-        let x = a[i];
-        let y = b[i];
-        if x < y {
-            return Ordering::Less;
-        }
-        if y < x {
-            return Ordering::Greater;
-        }
-        i += 1;
-    }
-    if i < b.len() {
-        return Ordering::Less;
-    }
-    Ordering::Equal
+    Some(size)
 }
 
 // The place of the name so many names on.
@@ -91,52 +57,44 @@ fn skip(names: &[u8], at: usize, steps: usize) -> usize
     ensures { result ≡ place_from (text_size names.now) at steps }
 {
     let mut place = at;
-    let mut left = steps;
-    while 0 < left {
-        place = place + layout::get8(names, place) as usize + 1;
-        left -= 1;
+    for _step in 0..steps {
+        place = place + layout::get::<1>(names, place) as usize + 1;
     }
     place
 }
 
-// On to the first symbol whose name does not come before a name. It is that name's, if any is.
-fn seek(world_names: &[u8], symbols: &[u8], from: Cursor, name: &[u8]) -> Cursor
+// On to the first symbol whose name does not come before a name, and its number if it has that name. (The symbols passed are not looked at again: a cursor
+// goes on through them, name by name of the routine.)
+fn seek(world_names: &[u8], symbols: &[u8], from: Cursor, name: &[u8]) -> (Cursor, Option<usize>)
     requires { (Symbols world_names.now symbols.now) × ((Standing world_names.now symbols.now from.symbol from.name from.at) × (Passed world_names.now symbols.now from.symbol name.now)) }
-    ensures { Sought world_names.now symbols.now name.now result }
+    ensures { Sought world_names.now symbols.now name.now result.0 result.1 }
 {
-    let mut symbol = from.symbol;
-    let mut number = from.name;
-    let mut at = from.at;
-    while symbol * SYMBOL < symbols.len() {
-        let wanted = layout::get16(symbols, symbol * SYMBOL) as usize;
-        at = skip(world_names, at, wanted - number);
-        number = wanted;
-        let order = compare(text_at(world_names, at), name);
-        match order {
-            Ordering::Less => symbol += 1,
-            Ordering::Equal => return Cursor {
-                symbol,
-                name: number,
-                at,
-                entry: symbol + 1,
-            },
-            Ordering::Greater => return Cursor {
-                symbol,
-                name: number,
-                at,
-                entry: 0,
-            },
+    let mut cursor = from;
+    while cursor.symbol * SYMBOL < symbols.len() {
+        let wanted = layout::get::<2>(symbols, cursor.symbol * SYMBOL) as usize;
+        cursor.at = skip(world_names, cursor.at, wanted - cursor.name);
+        cursor.name = wanted;
+        match text_at(world_names, cursor.at).cmp(&name) {
+            Ordering::Less => cursor.symbol += 1,
+            Ordering::Equal => return (cursor, Some(cursor.symbol)),
+            Ordering::Greater => return (cursor, None),
         }
     }
-    Cursor {
-        symbol,
-        name: number,
-        at,
-        entry: 0,
+    (cursor, None)
+}
+
+// What the index says of a name's symbol: 0 for none, else 1 more than its number.
+fn entry_of(found: Option<usize>) -> u64
+    requires { entry_of found < 2 ^ 64 }
+    ensures { result ≡ entry_of found }
+{
+    match found {
+        Some(symbol) => symbol as u64 + 1,
+        None => 0,
     }
 }
 
-// The index of the routine's names: one merge of them with the symbols, whose names ascend as they do.
+// The index of the routine's names: one merge of them with the symbols, whose names ascend as they do. (A loop by lengths, as `fill_texts`.)
 pub fn fill_symbols(routine_names: &[u8], world_names: &[u8], symbols: &[u8], part: &mut [u8])
     requires { (1 ≤ names_in routine_names.now) × ((length routine_names.now < 65536) × ((Symbols world_names.now symbols.now) × (symbols_room ≤ length part.old))) }
     ensures { SymbolsIndexed routine_names.now world_names.now symbols.now part.new }
@@ -145,14 +103,14 @@ pub fn fill_symbols(routine_names: &[u8], world_names: &[u8], symbols: &[u8], pa
         symbol: 0,
         name: 0,
         at: 0,
-        entry: 0,
     };
     let mut at = 0;
     let mut count = 0;
     while at < routine_names.len() {
         let name = text_at(routine_names, at);
-        cursor = seek(world_names, symbols, cursor, name);
-        layout::put16(part, count * 2, cursor.entry as u64);
+        let (next, found) = seek(world_names, symbols, cursor, name);
+        cursor = next;
+        layout::put::<2>(part, count * 2, entry_of(found));
         at = at + name.len() + 1;
         count += 1;
     }

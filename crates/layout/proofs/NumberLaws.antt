@@ -1,15 +1,17 @@
 -- Numbers in bytes, once over how many. Assumes nothing.
-use mathlib.Core.Path.{◌≡◌, refl, sym, ap, ◌∙◌}
+use mathlib.Core.Path.{◌≡◌, refl, sym, ap, ap₂, ◌∙◌}
 use mathlib.Core.List.{List, [], ◌∷◌, ◌++◌}
 use Prim.Native.Nat.{ℕ, zero, suc, ◌+◌, ◌*◌, ◌/◌, ◌%◌, ◌^◌, ◌≤◌, ◌<◌}
 use native.Mathlib.Nat.{pow-suc, pow-zero, div-lt_iff_lt-mul, div-div-eq-div-mul, div-one, mul_comm, mul_assoc, suc-add, zero-add, le_trans, pow-le-pow_right}
 use native.Mathlib.Omega.{arith}
 use lib.Dec.{lit<}
-use lib.ListN.{length, take, drop, get_or, length-take, length-drop}
-use lib.Seq.{take-add, drop-drop, drop-cons, sets, length-take-le}
+use lib.ListN.{length, take, drop, replicate, get_or, length-take, length-drop}
+use Rattle.std.specs.Int.{byte_at, byte_worth, bytes_low_first, sum_through}
+use Rattle.std.specs.List.{slice_index}
+use lib.Seq.{take-suc, take-add, drop-drop, drop-cons, length-take-le}
 use Rattle.layout.specs.Each.{Bytes}
-use Rattle.layout.specs.Number.{le, num, number_at, put_number}
-use Rattle.layout.proofs.StoreLaws.{sets_append}
+use Rattle.layout.specs.Number.{le, num, number_at}
+use Rattle.layout.proofs.StoreLaws.{byte_of}
 
 pub length_le : (k n : ℕ) → length (le k n) ≡ k
 length_le zero n = refl
@@ -73,13 +75,36 @@ le_num (suc k) (b ∷ bs) h all =
     let z : le k (num bs) ≡ bs = le_num k bs (omega arith) all.1 in
     rw (x, y, z)
 
--- a number read, and one stored, in two parts
-pub get_parts : (j k : ℕ) (s : List ℕ) (i a b : ℕ) → i + j ≤ length s → a ≡ number_at s i j → b ≡ number_at s (i + j) k → a + 256 ^ j * b ≡ number_at s i (j + k)
-get_parts j k s i a b h p q =
-    ap (λ (x : ℕ). x + 256 ^ j * b) p ∙ ap (λ (x : ℕ). number_at s i j + 256 ^ j * x) q ∙ sym (number_at_add s i j k h)
+-- one byte more of a number
+num_more : (s : List ℕ) (k : ℕ) → k < length s → Bytes s → num (take (suc k) s) ≡ num (take k s) + 256 ^ k * get_or s k 0
+num_more s k h all =
+    let n : length (take k s) ≡ k = length-take-le k s (omega arith) in
+    let b : num (get_or s k 0 ∷ []) ≡ get_or s k 0 = omega (arith, byte_of s k all) in
+    rw (take-suc s k 0 h, num_append, n, b)
 
-pub put_parts : (j k : ℕ) (s t u : List ℕ) (i v : ℕ) → t ≡ put_number s i j v → u ≡ put_number t (i + j) k (v / 256 ^ j) → u ≡ put_number s i (j + k) v
-unfolding put_number
-put_parts j k s t u i v p q =
-    let e : sets s i (le (j + k) v) ≡ sets (sets s i (le j v)) (i + j) (le k (v / 256 ^ j)) = rw (le_add, sets_append, length_le) in
-    q ∙ ap (λ (l : List ℕ). sets l (i + j) (le k (v / 256 ^ j))) p ∙ sym e
+-- std's `from_le_bytes`: the first bytes as a number
+pub num_from : (s : List ℕ) (k : ℕ) → k < length s → Bytes s → sum_through (λ i. byte_worth i (slice_index s i)) k ≡ num (take (suc k) s)
+num_from s zero h all = sym (num_more s 0 h all ∙ rw (pow-zero) (omega arith))
+num_from s (suc k) h all =
+    omega (arith, num_from s k (omega arith) all, num_more s (suc k) h all, mul_comm (256 ^ suc k) (get_or s (suc k) 0))
+
+-- zeros above a number
+pub num_above : (s : List ℕ) (m : ℕ) → num (s ++ replicate m 0) ≡ num s
+num_above [] zero = refl
+num_above [] (suc m) = omega (arith, num_above [] m)
+num_above (b ∷ s) m = ap (λ (n : ℕ). b % 256 + 256 * n) (num_above s m)
+
+byte_from : (i n : ℕ) → byte_at i n ≡ n / 256 ^ i % 256
+byte_from zero n = rw (pow-zero, div-one)
+byte_from (suc i) n = refl
+
+-- std's `to_le_bytes`: the lowest byte first
+pub le_from : (k i n : ℕ) → bytes_low_first i k n ≡ le k (n / 256 ^ i)
+le_from zero i n = refl
+le_from (suc k) i n =
+    ap₂ (λ (b : ℕ) (l : List ℕ). b ∷ l) (byte_from i n) (le_from k (suc i) n ∙ ap (le k) (ap (λ (x : ℕ). n / x) (pow-suc 256 i) ∙ sym (div-div-eq-div-mul n (256 ^ i) 256)))
+
+pub take_le : (j k n : ℕ) → j ≤ k → take j (le k n) ≡ le j n
+take_le zero k n h = refl
+take_le (suc j) zero n h = absurd (omega arith)
+take_le (suc j) (suc k) n h = ap (λ (l : List ℕ). n % 256 ∷ l) (take_le j k (n / 256) (omega arith))

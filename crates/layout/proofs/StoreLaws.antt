@@ -1,12 +1,12 @@
 -- Bytes stored in a list from an index on, and through a part of it that is lent. Assumes nothing.
 use mathlib.Core.Path.{◌≡◌, refl, sym, ap, ap₂, ◌∙◌}
 use mathlib.Core.List.{List, [], ◌∷◌, ◌++◌, append_assoc}
-use Prim.Native.Nat.{ℕ, zero, suc, ◌+◌, ◌≤◌, ◌<◌}
+use Prim.Native.Nat.{ℕ, zero, suc, ◌+◌, ◌-◌, ◌≤◌, ◌<◌}
 use native.Mathlib.Nat.{add-suc, suc-add, zero-add, add-zero}
-use native.Mathlib.Numerals.{add-one}
 use native.Mathlib.Omega.{arith}
-use lib.ListN.{length, take, drop, get_or, set, length-set, take-append-drop}
-use lib.Seq.{sets, sets-eq, drop_at, take_at, set_at, take-suc, drop-cons, append_snoc, length-take-le, drop-set-lt, drop-set-add, take-nil, take-take, take-set-le, set-append_left}
+use lib.Dec.{lit<}
+use lib.ListN.{length, take, drop, replicate, get_or, set, length-set, take-append-drop}
+use lib.Seq.{sets, sets-eq, drop-drop, drop_at, take_at, length-take-le, drop-set-lt, drop-set-add, take-nil, take-take, take-set-le, set-append_left}
 use borrow.Rule.Slice.PartMut.{mid_of, post_of, put_mid}
 use Rattle.layout.specs.Each.{Each, Bytes}
 use Rattle.layout.specs.Number.{num, number_at}
@@ -38,6 +38,15 @@ each_drop = all_drop (λ b. b < 256)
 pub each_byte : (s : List ℕ) → ((i : ℕ) → get_or s i 0 < 256) → Bytes s
 each_byte [] h = tt
 each_byte (x ∷ s) h = (h 0, each_byte s (λ i. h (suc i)))
+
+pub each_zero : (n : ℕ) → Bytes (replicate n 0)
+each_zero zero = tt
+each_zero (suc n) = (lit< tt, each_zero n)
+
+pub byte_of : (s : List ℕ) (i : ℕ) → Bytes s → get_or s i 0 < 256
+byte_of [] i all = omega arith
+byte_of (x ∷ s) zero all = all.0
+byte_of (x ∷ s) (suc i) all = byte_of s i all.1
 
 -- ---- stores one after the other
 
@@ -74,13 +83,6 @@ pub drop_sets_at : (vs l : List ℕ) (i : ℕ) → i + length vs ≤ length l �
 drop_sets_at vs l i h =
     rw (sets-eq vs l i h, append_assoc) (drop_at (take i l) (vs ++ drop (i + length vs) l) i (length-take-le i l (omega arith)))
 
--- a turn of the loop that copies
-pub copy_more : (s d : List ℕ) (i : ℕ) → i < length s → i < length d → set (take i s ++ drop i d) i (get_or s i 0) ≡ take (i + 1) s ++ drop (i + 1) d
-copy_more s d i hs hd =
-    let e : set (take i s ++ drop i d) i (get_or s i 0) ≡ take i s ++ get_or s i 0 ∷ drop (suc i) d =
-    ap (λ (l : List ℕ). set (take i s ++ l) i (get_or s i 0)) (drop-cons d i 0 hd) ∙ set_at (take i s) (get_or d i 0) (drop (suc i) d) (get_or s i 0) i (length-take-le i s (omega arith)) in
-    e ∙ rw (add-one, take-suc s i 0 hs, append_snoc)
-
 -- ---- through a lent part
 
 drop_sets_add : (vs s : List ℕ) (a i : ℕ) → drop a (sets s (a + i) vs) ≡ sets (drop a s) i vs
@@ -103,6 +105,12 @@ pub put_sets : (vs s : List ℕ) (a k i : ℕ) → i + length vs ≤ length (mid
 put_sets vs s a k i h =
     ap (λ (x : List ℕ). take a s ++ x) (sym (sets_append_left vs (mid_of a k s) (post_of a k s) i h) ∙ ap (λ (x : List ℕ). sets x i vs) (take-append-drop k (drop a s)))
     ∙ sets_part vs s a i
+
+-- what is copied into a part is stored in the whole
+pub part_stored : (s x : List ℕ) (a n : ℕ) → a + n ≤ length s → length x ≡ n → put_mid a (a + n - a) s x ≡ sets s a x
+part_stored s x a n h l =
+    let w : a + n - a ≡ n = omega arith in
+    rw (w, sets-eq x s a (omega (arith, l)), drop-drop, l, append_assoc)
 
 -- the part of the whole is what came back
 pub mid_put : (a k : ℕ) (s t : List ℕ) → a ≤ length s → length t ≡ k → take k (drop a (put_mid a k s t)) ≡ t

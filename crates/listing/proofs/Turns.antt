@@ -1,23 +1,29 @@
--- A turn of a loop over a body: what its next line starts with is there, and the one behind it lies further on. Assumes nothing.
-use mathlib.Core.Path.{◌≡◌, sym, subst}
+-- A turn of a loop over what is left of a body: what its next line is made from is there, and less is left behind it. Assumes nothing.
+use mathlib.Core.Path.{◌≡◌, sym, subst, ap, ◌∙◌}
 use mathlib.Core.List.{List}
-use Prim.Native.Nat.{ℕ, ◌+◌, ◌≤◌, ◌<◌}
+use Prim.Native.Nat.{ℕ, ◌-◌, ◌≤◌, ◌<◌}
 use native.Mathlib.Omega.{arith}
-use lib.ListN.{length, drop}
-use Rattle.text.specs.Read.{step_size}
-use Rattle.text.proofs.Listing.{StepsLeft, VariablesLeft, steps_from, variables_from}
+use lib.ListN.{length, take, drop, length-drop}
+use lib.Seq.{take_all}
+use Rattle.text.specs.Read.{step_size, StepThere, VariableThere}
+use Rattle.text.proofs.Listing.{StepsLeft, VariablesLeft, steps_next, variables_next}
 
-step_some : (s : List ℕ) → 0 < step_size s
+rest_of : (s : List ℕ) (at : ℕ) → take (length s - at) (drop at s) ≡ drop at s
+rest_of s at = take_all (length s - at) (drop at s) (rw length-drop (omega arith))
+
+step_long : {n : ℕ} {s : List ℕ} → StepThere n s → (step_size s ≤ length s) × (0 < step_size s)
 unfolding step_size
-step_some s = omega arith
+step_long t = (t.inside, omega arith)
 
-module _ {n : ℕ} (b : List ℕ) (at next : ℕ) (l : at < length b) where
-  pub step_turn : StepsLeft n (drop at b) → next ≡ at + step_size (drop at b) → (next ≤ length b) × ((at < next) × StepsLeft n (drop next b))
-  step_turn left e =
-      let x = steps_from b at left l in
-      (omega (arith, e, x.1.0), (omega (arith, e, step_some (drop at b)), subst (λ (k : ℕ). StepsLeft n (drop k b)) (sym e) x.1.1))
+module _ {n : ℕ} (s : List ℕ) (l : 0 < length s) where
+  pub step_turn : StepsLeft n s → {k : ℕ} → k ≡ step_size s → (k ≤ length s) × ((length (take (length s - k) (drop k s)) < length s) × StepsLeft n (take (length s - k) (drop k s)))
+  step_turn left {k} e =
+      let x = steps_next left l in
+      let y = step_long x.0 in
+      let f : take (length s - k) (drop k s) ≡ drop (step_size s) s = rest_of s k ∙ ap (λ (i : ℕ). drop i s) e in
+      (omega (arith, e, y.0), (omega (arith, ap length f, length-drop (step_size s) s, y.0, y.1), subst (λ (t : List ℕ). StepsLeft n t) (sym f) x.1))
 
-  pub variable_turn : VariablesLeft n (drop at b) → next ≡ at + 16 → (next ≤ length b) × ((at < next) × VariablesLeft n (drop next b))
-  variable_turn left e =
-      let x = variables_from b at left l in
-      (omega (arith, e, x.1.0), (omega (arith, e), subst (λ (k : ℕ). VariablesLeft n (drop k b)) (sym e) x.1.1))
+  pub variable_turn : VariablesLeft n s → (16 ≤ length s) × VariablesLeft n (take (length s - 16) (drop 16 s))
+  variable_turn left =
+      let x = variables_next left l in
+      (x.0.inside, subst (λ (t : List ℕ). VariablesLeft n t) (sym (rest_of s 16)) x.1)

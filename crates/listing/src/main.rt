@@ -3,53 +3,27 @@
 
 mod run;
 
-ghost use Rattle.std.specs.Io.{ReadsAtMost};
-
-use std::io::Read;
+use std::alloc::Global;
 use std::rt::Files;
 use std::{fs, io};
 
-// Reads until the buffer is full or the input ends: how many bytes stand at its start.
-fn read_full<R: Read>(reader: &mut R, buffer: &mut [u8]) -> io::Result<usize>
-    ensures { ReadsAtMost result buffer.new }
-{
-    let mut done = 0;
-    while done < buffer.len() {
-        let n = reader.read(&mut buffer[done..])?;
-        if n == 0 {
-            return Ok(done);
-        }
-        done += n;
-    }
-    Ok(done)
-}
+// The most bytes that are read of a file, as many as no file may have.
+const MOST: u64 = 65536;
 
-// The bytes of a file at the start of a buffer of 65,536, and how many. A file that cannot be opened is taken as empty; of a longer
-// one as many are there as no file may have, and the run is refused by its number.
-fn read_file(rt: &impl Files, path: &str, buffer: &mut [u8]) -> io::Result<usize>
-    ensures { ReadsAtMost result buffer.new }
-{
+// The bytes of a file. One that cannot be opened is taken as empty; of a longer one the run is refused by its number.
+fn read_file(rt: &impl Files, alloc: Global, path: &str) -> io::Result<Vec<u8>> {
     match fs::open(rt, path) {
-        Ok(mut reader) => read_full(&mut reader, buffer),
-        Err(_) => Ok(0),
+        Ok(file) => reading::read_full(alloc, file, MOST),
+        Err(_) => Ok(Vec::new(alloc)),
     }
 }
 
 fn main(rt: HostRuntime) -> io::Result<()> {
-    let mut routine = [0u8; 65536];
-    let mut world = [0u8; 65536];
-    let mut call = [0u8; 65536];
+    let alloc = rt.alloc();
+    let routine = read_file(&rt, alloc, "routine.bin")?;
+    let world = read_file(&rt, alloc, "world.bin")?;
+    let call = read_file(&rt, alloc, "call.bin")?;
     let mut record = [0u8; 65536];
     let mut workspace = [0u8; 65536];
-    let r = read_file(&rt, "routine.bin", &mut routine)?;
-    let w = read_file(&rt, "world.bin", &mut world)?;
-    let c = read_file(&rt, "call.bin", &mut call)?;
-    run::print_listing(
-        &rt,
-        &routine[..r],
-        &world[..w],
-        &call[..c],
-        &mut record,
-        &mut workspace,
-    )
+    run::print_listing(&rt, &routine, &world, &call, &mut record, &mut workspace)
 }

@@ -1,92 +1,107 @@
-// The listing of a run, line by line, each made in one lent buffer and written out.
-ghost use Rattle.std.specs.Prelude.{◌≡◌, ◌≤◌, ◌<◌, length};
-ghost use Rattle.layout.specs.Number.{number_at};
-ghost use Rattle.index.specs.Texts.{text_count, TextsIndexed};
+// The listing of a run, line by line, each made in one buffer and written out.
+ghost use Rattle.std.specs.Prelude.{◌≡◌, ◌≤◌, length};
+ghost use Rattle.index.specs.Texts.{text_count};
 ghost use Rattle.definition.specs.Record.{body_at};
-ghost use Rattle.text.specs.Read.{StopThere};
 ghost use Rattle.text.proofs.Listing.{StepsLeft, VariablesLeft};
 ghost use Rattle.listing.specs.Accepted.{Located, Listable, RunOf};
 
 use std::io;
+use text::bodies::{HeadBytes, Names, StepBytes, StopBytes, VariableBytes};
 
-// The first bytes of a buffer, so many, written out.
-fn print_line(rt: &impl Print, out: &[u8], size: usize) -> io::Result<()>
-    requires { size ≤ length out.now }
-{
-    rt.write_all(&out[0..size])
+// Where lines are printed, and the buffer that each is made in.
+#[derive(Drop)]
+struct Printer<'a, P: Print> {
+    rt: &'a P,
+    out: [u8; text::LINE],
 }
 
-fn print_refusal(rt: &impl Print, number: u64, out: &mut [u8]) -> io::Result<()>
-    requires { 8192 ≤ length out.old }
-{
-    let size = text::refusal_line(number, out);
-    print_line(rt, out, size)
-}
-
-fn print_header(
-    rt: &impl Print,
-    names: &[u8],
-    part: &[u8],
-    head: &[u8],
-    out: &mut [u8],
-) -> io::Result<()>
-    requires texts_indexed { (TextsIndexed names.now part.now) × ((10 ≤ length head.now) × (number_at head.now 0 2 < text_count names.now)) }
-    requires out_long { 8192 ≤ length out.old }
-{
-    let size = text::header(names, part, head, out);
-    print_line(rt, out, size)
-}
-
-fn print_steps(
-    rt: &impl Print,
-    names: &[u8],
-    part: &[u8],
-    steps: &[u8],
-    out: &mut [u8],
-) -> io::Result<()>
-    requires texts_indexed { (TextsIndexed names.now part.now) × (StepsLeft (text_count names.now) steps.now) }
-    requires out_long { 8192 ≤ length out.old }
-{
-    let mut at = 0;
-    while at < steps.len() {
-        let line = text::step_line(names, part, steps, at, out);
-        print_line(rt, out, line.length)?;
-        at = line.next;
+impl<'a, P: Print> Printer<'a, P> {
+    fn new(rt: &'a P) -> Self {
+        Printer {
+            rt,
+            out: [0; text::LINE],
+        }
     }
-    Ok(())
-}
 
-fn print_stop(
-    rt: &impl Print,
-    names: &[u8],
-    part: &[u8],
-    stop: &[u8],
-    out: &mut [u8],
-) -> io::Result<()>
-    requires texts_indexed { (TextsIndexed names.now part.now) × (StopThere (text_count names.now) stop.now) }
-    requires out_long { 8192 ≤ length out.old }
-{
-    let size = text::stop_line(names, part, stop, out);
-    print_line(rt, out, size)
-}
-
-fn print_variables(
-    rt: &impl Print,
-    names: &[u8],
-    part: &[u8],
-    variables: &[u8],
-    out: &mut [u8],
-) -> io::Result<()>
-    requires texts_indexed { (TextsIndexed names.now part.now) × (VariablesLeft (text_count names.now) variables.now) }
-    requires out_long { 8192 ≤ length out.old }
-{
-    let mut at = 0;
-    while at < variables.len() {
-        let line = text::variable_line(names, part, variables, at, out);
-        print_line(rt, out, line.length)?;
-        at = line.next;
+    // The line at the front of the buffer, of so many bytes.
+    fn line(&self, size: usize) -> io::Result<()>
+        requires { size ≤ 8192 }
+    {
+        self.rt.write_all(&self.out[..size])
     }
-    Ok(())
+
+    fn refusal(&mut self, number: u64) -> io::Result<()> {
+        let size = text::refusal_line(number, &mut self.out);
+        self.line(size)
+    }
+
+    fn header(&mut self, head: HeadBytes) -> io::Result<()> {
+        let size = text::header(head, &mut self.out);
+        self.line(size)
+    }
+
+    // By lengths: where the next step is only a step's own size says.
+    fn steps(&mut self, names: Names, steps: &[u8]) -> io::Result<()>
+        requires { StepsLeft (text_count names.body.now) steps.now }
+    {
+        let mut rest = steps;
+        while !rest.is_empty() {
+            let step = StepBytes { names, bytes: rest };
+            let size = text::step_line(step, &mut self.out);
+            self.line(size)?;
+            rest = &rest[step.size()..];
+        }
+        Ok(())
+    }
+
+    fn stop(&mut self, stop: StopBytes) -> io::Result<()> {
+        let size = text::stop_line(stop, &mut self.out);
+        self.line(size)
+    }
+
+    // By lengths, as `steps`.
+    fn variables(&mut self, names: Names, variables: &[u8]) -> io::Result<()>
+        requires { VariablesLeft (text_count names.body.now) variables.now }
+    {
+        let mut rest = variables;
+        while !rest.is_empty() {
+            let variable = VariableBytes { names, bytes: rest };
+            let size = text::variable_line(variable, &mut self.out);
+            self.line(size)?;
+            rest = &rest[VariableBytes::SIZE..];
+        }
+        Ok(())
+    }
+
+    // The lines of an accepted run, from its record.
+    fn lines(&mut self, head: HeadBytes, record: &[u8]) -> io::Result<()>
+        requires { Listable (text_count head.names.body.now) «record».now }
+    {
+        let names = head.names;
+        let stop = StopBytes {
+            names,
+            bytes: body(record, 0),
+        };
+        self.header(head)?;
+        self.steps(names, body(record, 2))?;
+        self.stop(stop)?;
+        self.variables(names, body(record, 3))
+    }
+
+    // The listing of an accepted run, from its routine and its record.
+    fn listing(&mut self, routine: &[u8], record: &[u8]) -> io::Result<()>
+        requires { RunOf routine.now «record».now }
+    {
+        let mut part = [0u8; index::texts::TEXTS];
+        let body = files::table::body(routine, 0);
+        index::texts::fill_texts(body, &mut part);
+        let names = Names { body, part: &part };
+        let head = HeadBytes {
+            names,
+            bytes: files::table::body(routine, 2),
+        };
+        self.lines(head, record)
+    }
 }
 
 // What pair i of a record locates.
@@ -94,44 +109,14 @@ fn body(record: &[u8], i: usize) -> &[u8]
     requires { Located «record».now i }
     ensures { result.now ≡ body_at «record».now i }
 {
-    let start = layout::get32(record, 8 * i) as usize;
-    let end = start + layout::get32(record, 8 * i + 4) as usize;
+    let start = layout::get::<4>(record, 8 * i) as usize;
+    let end = start + layout::get::<4>(record, 8 * i + 4) as usize;
     &record[start..end]
 }
 
-// The lines of an accepted run.
-fn print_lines(
-    rt: &impl Print,
-    names: &[u8],
-    part: &[u8],
-    head: &[u8],
-    record: &[u8],
-    out: &mut [u8],
-) -> io::Result<()>
-    requires texts_indexed { (TextsIndexed names.now part.now) × ((10 ≤ length head.now) × (number_at head.now 0 2 < text_count names.now)) }
-    requires listable { (Listable (text_count names.now) «record».now) × (8192 ≤ length out.old) }
-{
-    print_header(rt, names, part, head, out)?;
-    print_steps(rt, names, part, body(record, 2), out)?;
-    print_stop(rt, names, part, body(record, 0), out)?;
-    print_variables(rt, names, part, body(record, 3), out)
-}
-
-// The listing of an accepted run, from its routine and its record.
-fn print_run(rt: &impl Print, routine: &[u8], record: &[u8], out: &mut [u8]) -> io::Result<()>
-    requires { (RunOf routine.now «record».now) × (8192 ≤ length out.old) }
-{
-    let names = files::table::body(routine, 0);
-    let head = files::table::body(routine, 2);
-    let mut space = [0u8; index::texts::TEXTS];
-    let part: &mut [u8] = &mut space;
-    index::texts::fill_texts(names, part);
-    print_lines(rt, names, part, head, record, out)
-}
-
 // A run with the buffers that the listing lends, and its listing.
-pub fn print_listing(
-    rt: &impl Print,
+pub fn print_listing<P: Print + Drop>(
+    rt: &P,
     routine: &[u8],
     world: &[u8],
     call: &[u8],
@@ -140,12 +125,11 @@ pub fn print_listing(
 ) -> io::Result<()>
     requires { (length «record».old ≡ 65536) × (length workspace.old ≡ 65536) }
 {
-    let mut space = [0u8; text::LINE];
-    let out: &mut [u8] = &mut space;
+    let mut printer = Printer::new(rt);
     let answer = emulate::run(routine, world, call, record, workspace);
     if answer.number != 0 {
-        return print_refusal(rt, answer.number as u64, out);
+        return printer.refusal(answer.number as u64);
     }
     let size = answer.length as usize;
-    print_run(rt, routine, &record[..size], out)
+    printer.listing(routine, &record[..size])
 }

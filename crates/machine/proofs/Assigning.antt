@@ -15,6 +15,8 @@ use Rattle.definition.specs.Evaluate.{Env, Did, look, looks, eval_as, execute, a
 use Rattle.definition.specs.Evaluate as ev
 use Rattle.workspace.specs.Parts.{registers_part}
 use Rattle.workspace.specs.Registers.{value_at}
+use Rattle.stream.specs.declared.Reason.TheVariants.{StoreTo}
+use Rattle.hosting.specs.declared.Short.TheVariants.{Why}
 use Rattle.hosting.specs.Scene.{given}
 use Rattle.hosting.specs.Stands.{Stands, stands, Shape, a_deref, an_assign, Fine}
 use Rattle.hosting.specs.Ending.{Ending, ended, short, short_of}
@@ -139,7 +141,7 @@ pub place_of : (E : Env) {b : List ℕ} {n : ℕ} {t : Tree} → Stands b n t �
 unfolding look
 place_of E (stands i h) = refl
 
-pub odd_assigns : {b s r : List ℕ} {l : ℕ} {v : Val} {w₀ o₀ : List ℕ} {k : ℕ} {d : Bool} {w : List ℕ} → k ≡ kind_of b l → (k ≡ 1 → ⊥) → (k ≡ 9 → ⊥) → GivesShort w₀ (record { reason = 8; number = l }) d w
+pub odd_assigns : {b s r : List ℕ} {l : ℕ} {v : Val} {w₀ o₀ : List ℕ} {k : ℕ} {d : Bool} {w : List ℕ} → k ≡ kind_of b l → (k ≡ 1 → ⊥) → (k ≡ 9 → ⊥) → GivesShort w₀ (Why StoreTo l) d w
     → AssignsVal b s r l v w₀ o₀ d w o₀
 unfolding look
 odd_assigns {b} {s} {r} {l} {v} {w₀} {o₀} {k} {d} {w} p n1 n9 e = record { goes = λ t h. go t h }

@@ -2,6 +2,8 @@
 use mathlib.Core.Path.{◌≡◌, refl, sym, ap, ap₂, ◌∙◌, subst}
 use mathlib.Core.Bool.{Bool, true, false}
 use mathlib.Core.List.{List, [], ◌∷◌, ◌++◌}
+use Rattle.std.specs.Prelude.{Option, None, Some, is_some}
+use Rattle.std.proofs.lemmas.Option.{none-some, same_Some}
 use Prim.Native.Nat.{ℕ, ◌+◌, ◌*◌, ◌≤◌}
 use native.Mathlib.Omega.{arith}
 use lib.ListN.{length, take, drop}
@@ -19,7 +21,6 @@ use Rattle.value.specs.Encoding.{val_bytes}
 use Rattle.value.proofs.EncodingLaws.{length_val_bytes}
 use Rattle.hosting.specs.declared.How.{How}
 use Rattle.hosting.specs.declared.Short.{Short}
-use Rattle.machine.specs.declared.Filled.{Filled}
 use Rattle.hosting.specs.Scene.{Given, given, Scene}
 use Rattle.hosting.specs.Stands.{Stands, stands, Shape, a_call, KidsAt, no_kid, a_kid, FineArgs}
 use Rattle.hosting.specs.Ending.{ended, short, short_of}
@@ -66,8 +67,10 @@ module _ (vals vals' vals'' : List ℕ) (k : ℕ) {v : Val} (room : k * 14 + 14 
 
 -- ---- arguments
 
-abbrev pub filled_by : Bool → ℕ → Filled
-filled_by q c = record { ok = q; count = c }
+-- how many values there are with j more
+abbrev pub more : ℕ → Option ℕ → Option ℕ
+more j None = None
+more j (Some c) = Some (c + j)
 
 args_none : {g : How → Given} {b : List ℕ} {n e : ℕ} {w o : List ℕ} {ts : Trees} → KidsAt b n e ts → n ≡ e → Goes g (λ x. evals (looks x.env ts)) w o (ended []) w o
 unfolding look evals
@@ -79,13 +82,12 @@ more_filled : {g : How → Given} {m : Scene → Act (List Val)} {w₀ o₀ w o 
 more_filled true v vs y p = goes _ p (done_goes (λ _. v ∷ vs) (λ h x m. refl))
 more_filled false v vs y p = halts _ _ p
 
-pub args_end : {b s r : List ℕ} {n e k : ℕ} {w o vals : List ℕ} → n ≡ e → FineArgs b n e k → EvaluatesArgs b s r n e k w o (filled_by true 0) vals vals w o
+pub args_end : {b s r : List ℕ} {n e k : ℕ} {w o vals : List ℕ} → n ≡ e → FineArgs b n e k → EvaluatesArgs b s r n e k w o (Some 0) vals vals w o
 args_end {k = k} {vals = vals} z f = record {
   values = [];
-  filled = λ _. no_values vals k;
+  filled = λ c h. let z : 0 ≡ c = same_Some 0 c h in subst (λ (j : ℕ). ValuesIn vals k j [] × (j + k ≤ 16)) z (no_values vals k, omega (arith, f.room));
   goes = λ ts h. args_none h z;
   before = refl;
-  few = omega (arith, f.room);
 }
 
 module _ {b s r : List ℕ} {w₀ o₀ : List ℕ} {q : Bool} {w₁ o₁ : List ℕ} where
@@ -103,72 +105,77 @@ module _ {b s r : List ℕ} {w₀ o₀ : List ℕ} {q : Bool} {w₁ o₁ : List 
   args_stop (a_kid lt h k) ne ev eq = halts _ _ (told (sym (by_false (result_in w₁) eq refl)) (ev.goes _ h))
 
 module _ {b s r : List ℕ} {n e : ℕ} {w₀ o₀ : List ℕ} {q : Bool} {w₁ o₁ : List ℕ} (ne : n ≡ e → ⊥) (ev : Evaluates b s r n w₀ o₀ q w₁ o₁) where
-  pub args_short : {k : ℕ} {vals : List ℕ} → FineArgs b n e k → q ≡ false → EvaluatesArgs b s r n e k w₀ o₀ (filled_by false 0) vals vals w₁ o₁
-  args_short {k} {vals} f eq = record {
+  pub args_short : {k : ℕ} {vals : List ℕ} → FineArgs b n e k → q ≡ false → EvaluatesArgs b s r n e k w₀ o₀ None vals vals w₁ o₁
+  args_short f eq = record {
     values = [];
-    filled = λ _. no_values vals k;
+    filled = λ c h. absurd (none-some c h);
     goes = λ ts h. args_stop h ne ev eq;
     before = refl;
-    few = omega (arith, f.room);
   }
 
-  pub args_evals : {k m : ℕ} {vals vals' vals'' : List ℕ} {p : Bool} {c : ℕ} {w o : List ℕ} → k * 14 + 14 ≤ length vals → q ≡ true → m ≡ next b n → PutsVal vals k (result_in w₁) vals'
-      → EvaluatesArgs b s r m e (k + 1) w₁ o₁ (filled_by p c) vals' vals'' w o → EvaluatesArgs b s r n e k w₀ o₀ (filled_by p (c + 1)) vals vals'' w o
-  args_evals {k} {m} {vals} {vals'} {vals''} {p} {c} {w} {o} room eq em put ea =
-      let there : (us : Trees) → KidsAt b (next b n) e us → KidsAt b m e us = λ us h. subst (λ (j : ℕ). KidsAt b j e us) (sym em) h in
-      record {
-        values = result_in w₁ ∷ ea.values;
-        filled = λ z. more_values vals vals' vals'' k room put ea.before (ea.filled z);
-        goes = λ ts h. args_one p ea.values (short_in w) h ne ev eq (λ us i. ea.goes us (there us i));
-        before = kept_before vals vals' vals'' k room put ea.before;
-        few = omega (arith, ea.few);
-      }
+  there : {m : ℕ} → m ≡ next b n → (us : Trees) → KidsAt b (next b n) e us → KidsAt b m e us
+  there em us h = subst (λ (j : ℕ). KidsAt b j e us) (sym em) h
 
--- the same arguments, told by an equal count; and of what ended short none
-module _ {b s r : List ℕ} {n e k : ℕ} {w₀ o₀ vals vals' w o : List ℕ} {c : ℕ} where
-  pub args_count : {p : Bool} {d : ℕ} → d ≡ c → EvaluatesArgs b s r n e k w₀ o₀ (filled_by p c) vals vals' w o → EvaluatesArgs b s r n e k w₀ o₀ (filled_by p d) vals vals' w o
-  args_count {p} z ea = subst (λ (j : ℕ). EvaluatesArgs b s r n e k w₀ o₀ (filled_by p j) vals vals' w o) (sym z) ea
+  module _ {k m : ℕ} {vals vals' vals'' w o : List ℕ} (room : k * 14 + 14 ≤ length vals) (eq : q ≡ true) (em : m ≡ next b n) (put : PutsVal vals k (result_in w₁) vals') where
+    pub args_evals : (p : Option ℕ) → EvaluatesArgs b s r m e (k + 1) w₁ o₁ p vals' vals'' w o → EvaluatesArgs b s r n e k w₀ o₀ (more 1 p) vals vals'' w o
+    args_evals None ea = record {
+      values = result_in w₁ ∷ ea.values;
+      filled = λ c h. absurd (none-some c h);
+      goes = λ ts h. args_one false ea.values (short_in w) h ne ev eq (λ us i. ea.goes us (there em us i));
+      before = kept_before vals vals' vals'' k room put ea.before;
+    }
+    args_evals (Some c) ea = record {
+      values = result_in w₁ ∷ ea.values;
+      filled = λ d h.
+          let z = ea.filled c refl in
+          subst (λ (j : ℕ). ValuesIn vals'' k j (result_in w₁ ∷ ea.values) × (j + k ≤ 16)) (same_Some (c + 1) d h) (more_values vals vals' vals'' k room put ea.before z.0, omega (arith, z.1));
+      goes = λ ts h. args_one true ea.values (short_in w) h ne ev eq (λ us i. ea.goes us (there em us i));
+      before = kept_before vals vals' vals'' k room put ea.before;
+    }
 
-  pub args_cut : EvaluatesArgs b s r n e k w₀ o₀ (filled_by false c) vals vals' w o → EvaluatesArgs b s r n e k w₀ o₀ (filled_by false 0) vals vals' w o
-  args_cut ea = record {
-    values = [];
-    filled = λ _. no_values vals' k;
-    goes = ea.goes;
-    before = ea.before;
-    few = omega (arith, ea.few);
-  }
+-- the same arguments, told by an equal count
+pub args_told : {b s r : List ℕ} {n e k : ℕ} {w₀ o₀ vals vals' w o : List ℕ} {p d : Option ℕ} → d ≡ p → EvaluatesArgs b s r n e k w₀ o₀ p vals vals' w o → EvaluatesArgs b s r n e k w₀ o₀ d vals vals' w o
+args_told {b} {s} {r} {n} {e} {k} {w₀} {o₀} {vals} {vals'} {w} {o} z ea = subst (λ (j : Option ℕ). EvaluatesArgs b s r n e k w₀ o₀ j vals vals' w o) (sym z) ea
+
+pub more_none : (p : Option ℕ) → p ≡ more 0 p
+more_none None = refl
+more_none (Some c) = ap (λ (j : ℕ). Some j) (omega arith)
+
+pub more_one : (j : ℕ) (p : Option ℕ) → more (j + 1) p ≡ more j (more 1 p)
+more_one j None = refl
+more_one j (Some c) = ap (λ (i : ℕ). Some i) (omega arith)
 
 -- ---- the call
 
 -- the arguments of the tree that stands there
-under : {b s r : List ℕ} (n : ℕ) {m e : ℕ} {w₀ o₀ : List ℕ} {q : Filled} {vals vals' w₁ o₁ : List ℕ} {ts : Trees} → m ≡ next b (n + 1) → e ≡ next b n
+under : {b s r : List ℕ} (n : ℕ) {m e : ℕ} {w₀ o₀ : List ℕ} {q : Option ℕ} {vals vals' w₁ o₁ : List ℕ} {ts : Trees} → m ≡ next b (n + 1) → e ≡ next b n
     → (ea : EvaluatesArgs b s r m e 0 w₀ o₀ q vals vals' w₁ o₁) → KidsAt b (next b (n + 1)) (next b n) ts
-    → Goes (given b s r) (λ x. evals (looks x.env ts)) w₀ o₀ (end_by q.ok ea.values (short_in w₁)) w₁ o₁
+    → Goes (given b s r) (λ x. evals (looks x.env ts)) w₀ o₀ (end_by (is_some q) ea.values (short_in w₁)) w₁ o₁
 under {b} n {m} {ts = ts} em ee ea h = ea.goes ts (subst (λ (j : ℕ). KidsAt b m j ts) (sym ee) (subst (λ (j : ℕ). KidsAt b j (next b n) ts) (sym em) h))
 
 -- the workspace is in order after arguments that have values
-pub args_ready : {b s r : List ℕ} {n e k : ℕ} {w₀ o₀ : List ℕ} {q : Filled} {vals vals' w o : List ℕ} → EvaluatesArgs b s r n e k w₀ o₀ q vals vals' w o → q.ok ≡ true
+pub args_ready : {b s r : List ℕ} {n e k : ℕ} {w₀ o₀ : List ℕ} {q : Option ℕ} {vals vals' w o : List ℕ} {c : ℕ} → EvaluatesArgs b s r n e k w₀ o₀ q vals vals' w o → q ≡ Some c
     → FineArgs b n e k → ReadyIn (given b s r) w₀ → ReadyIn (given b s r) w
-args_ready {w = w} ea eq f p = ready_after (told (sym (by_true (short_in w) eq refl)) (ea.goes f.trees f.spells)) p
+args_ready {w = w} ea eq f p = ready_after (told (sym (by_true (short_in w) (ap is_some eq) refl)) (ea.goes f.trees f.spells)) p
 
-module _ {b s r : List ℕ} {n m e : ℕ} {w₀ o₀ : List ℕ} {q : Filled} {vals vals' w₁ o₁ : List ℕ} (k : kind_of b n ≡ 14) (em : m ≡ next b (n + 1)) (ee : e ≡ next b n)
+module _ {b s r : List ℕ} {n m e : ℕ} {w₀ o₀ : List ℕ} {q : Option ℕ} {vals vals' w₁ o₁ : List ℕ} (k : kind_of b n ≡ 14) (em : m ≡ next b (n + 1)) (ee : e ≡ next b n)
     (ea : EvaluatesArgs b s r m e 0 w₀ o₀ q vals vals' w₁ o₁) where
-  pub call_evals : {p : Bool} {w o : List ℕ} → q.ok ≡ true → Calls b vals' q.count n w₁ o₁ p w o → Evaluates b s r n w₀ o₀ p w o
+  pub call_evals : {c : ℕ} {p : Bool} {w o : List ℕ} → q ≡ Some c → Calls b vals' c n w₁ o₁ p w o → Evaluates b s r n w₀ o₀ p w o
   unfolding eval_as look kid call after_args
-  call_evals {p} {w} {o} eq f = record { goes = λ t h. go t h }
+  call_evals {c} {p} {w} {o} eq f = record { goes = λ t h. go t h }
     where
       from : {ts : Trees} → Shape b 14 n ts → Stands b n (tree (node_of b n) ts)
           → Goes (given b s r) (λ x. call x.env (kid 0 (looks x.env ts)) (rest (looks x.env ts))) w₀ o₀ (end_in p w) w o
       from (a_call {ts = ts} h ks few) st =
-          goes _ (told (sym (by_true (short_in w₁) eq refl)) (under n em ee ea ks)) (f.goes s r ea.values (ea.filled eq) _ st)
+          goes _ (told (sym (by_true (short_in w₁) (ap is_some eq) refl)) (under n em ee ea ks)) (f.goes s r ea.values (ea.filled c eq).0 _ st)
 
       go : (t : Tree) → Stands b n t → Goes (given b s r) (λ x. eval (look x.env t)) w₀ o₀ (end_in p w) w o
       go _ (stands {ts = ts} i h) = acts (λ _ x _. evals_as x.env b n 14 ts k) (from (subst (λ (j : ℕ). Shape b j n ts) k h) (stands i h))
 
-  pub call_short : q.ok ≡ false → Evaluates b s r n w₀ o₀ false w₁ o₁
+  pub call_short : q ≡ None → Evaluates b s r n w₀ o₀ false w₁ o₁
   unfolding eval_as look kid call
   call_short eq = by 14 k (λ ts h. from h)
     where
       from : {ts : Trees} → Shape b 14 n ts
           → Goes (given b s r) (λ x. call x.env (kid 0 (looks x.env ts)) (rest (looks x.env ts))) w₀ o₀ (end_in false w₁) w₁ o₁
-      from (a_call {ts = ts} h ks few) = halts _ _ (told (sym (by_false ea.values eq refl)) (under n em ee ea ks))
+      from (a_call {ts = ts} h ks few) = halts _ _ (told (sym (by_false ea.values (ap is_some eq) refl)) (under n em ee ea ks))

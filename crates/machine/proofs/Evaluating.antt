@@ -1,4 +1,5 @@
 -- What evaluating each kind of node is, from what the code did for it: laws from what is known of the code's calls to what it ensures. Assumes nothing.
+use Rattle.std.specs.Prelude.{Option, Some}
 use mathlib.Core.Path.{◌≡◌, refl, sym, ap, ◌∙◌, subst}
 use mathlib.Core.Bool.{Bool, true, false, not}
 use mathlib.Core.List.{List, []}
@@ -8,9 +9,10 @@ use lib.ListN.{get_or}
 use lib.Dec.{eqb}
 use borrow.Author.Tests.{eqb-false, not-true, not-false}
 use Rattle.layout.proofs.ArmLaws.{NoneBelow}
+use Rattle.std.specs.Prelude.{Result, Ok, Err}
 use Rattle.value.specs.declared.Val.{Val}
-use Rattle.value.specs.declared.Answer.{Answer}
-use Rattle.value.specs.declared.Answer.TheVariants.{Value, DivisionByZero}
+use Rattle.value.specs.declared.ArithmeticError.{ArithmeticError}
+use Rattle.value.specs.declared.ArithmeticError.TheVariants.{DivisionByZero}
 use Rattle.value.specs.Value.{type, known_val, unknown_val, cast_to}
 use Rattle.value.specs.Operators.{binary_of, operator_of}
 use Rattle.spelling.specs.Spelling.{type_of}
@@ -23,8 +25,6 @@ use Rattle.definition.specs.Evaluate.{look, looks, eval_as, chosen, read_variabl
 use Rattle.workspace.specs.Parts.{tables, registers_part}
 use Rattle.workspace.specs.Registers.{value_at}
 use Rattle.workspace.specs.Types.{type_at}
-use Rattle.workspace.specs.declared.variables.Slot.{Slot}
-use Rattle.workspace.specs.declared.variables.Slot.TheVariants.{Set}
 use Rattle.hosting.specs.declared.How.{How}
 use Rattle.hosting.specs.declared.Short.{Short}
 use Rattle.hosting.specs.Scene.{Given, given, Scene}
@@ -79,7 +79,7 @@ module _ {b s r : List ℕ} {n : ℕ} {w₀ o₀ : List ℕ} {q : Bool} {w o : L
 pub record Valued (b s r : List ℕ) (n : ℕ) (w₀ o₀ : List ℕ) (v : Val) (w o : List ℕ) : Type 0 where
   pub goes : (t : Tree) → Stands b n t → Goes (given b s r) (λ x. eval (look x.env t)) w₀ o₀ (ended v) w o
 
-pub valued_at_hand : {b s r : List ℕ} {n : ℕ} {w o : List ℕ} {slot : Slot} {v : Val} → AtHand b n w slot → slot ≡ Set v → Valued b s r n w o v w o
+pub valued_at_hand : {b s r : List ℕ} {n : ℕ} {w o : List ℕ} {slot : Option Val} {v : Val} → AtHand b n w slot → slot ≡ Some v → Valued b s r n w o v w o
 valued_at_hand {b} {s} {r} {o = o} a e = record { goes = a.goes _ e (given b s r) o }
 
 pub valued_as : {b s r : List ℕ} {n : ℕ} {w₀ o₀ : List ℕ} {q : Bool} {w o : List ℕ} {v : Val} → Evaluates b s r n w₀ o₀ q w o → not q ≡ false → v ≡ value_at (registers_part w) 0
@@ -90,7 +90,7 @@ pub ready_valued : {b s r : List ℕ} {n : ℕ} {w₀ o₀ : List ℕ} {v : Val}
 ready_valued ev p f = ready_after (ev.goes _ f.spells) p
 
 -- the value is put in the registers
-pub at_hand_evals : {b s r : List ℕ} {n : ℕ} {w o : List ℕ} {slot : Slot} {v : Val} {q : Bool} {w' : List ℕ} → AtHand b n w slot → slot ≡ Set v → Gives w v q w' → Evaluates b s r n w o q w' o
+pub at_hand_evals : {b s r : List ℕ} {n : ℕ} {w o : List ℕ} {slot : Option Val} {v : Val} {q : Bool} {w' : List ℕ} → AtHand b n w slot → slot ≡ Some v → Gives w v q w' → Evaluates b s r n w o q w' o
 at_hand_evals {w' = w'} a e g = record { goes = λ t h. beside_after g.beside (told (by_true (short_in w') g.yes g.value) (a.goes _ e _ _ t h)) }
 
 -- a node told by an equal number
@@ -214,9 +214,9 @@ module _ {b s r : List ℕ} {n : ℕ} {w₀ o₀ : List ℕ} {p : Bool} {w₁ o�
 
 -- ---- Binary
 
-answers : {g : How → Given} {w o : List ℕ} (z : Answer) → Goes g (λ x. answered z) w o (answer_end z) w o
-answers (Value u) = done_goes (λ _. u) (λ h x m. refl)
-answers DivisionByZero = fail_goes
+answers : {g : How → Given} {w o : List ℕ} (z : Result Val ArithmeticError) → Goes g (λ x. answered z) w o (answer_end z) w o
+answers (Ok u) = done_goes (λ _. u) (λ h x m. refl)
+answers (Err DivisionByZero) = fail_goes
 
 module _ {b s r : List ℕ} {n : ℕ} {w₀ o₀ : List ℕ} (k : kind_of b n ≡ 12) where
   pub binary_short : {p : Bool} {w₁ o₁ : List ℕ} → Evaluates b s r (n + 1) w₀ o₀ p w₁ o₁ → not p ≡ true → Evaluates b s r n w₀ o₀ false w₁ o₁

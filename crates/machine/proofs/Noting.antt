@@ -14,8 +14,9 @@ use Rattle.definition.specs.Evaluate.{Env, Did, did, unknown_note, look, execute
 use Rattle.workspace.specs.Parts.{note_part}
 use Rattle.workspace.specs.Note.{pending_in}
 use Rattle.hosting.specs.declared.How.{How}
-use Rattle.hosting.specs.declared.Outcome.{Outcome}
-use Rattle.hosting.specs.declared.Done.{Done}
+use Rattle.std.specs.Prelude.{Result}
+use Rattle.hosting.specs.declared.Short.{Short}
+use Rattle.hosting.specs.declared.Did as code
 use Rattle.hosting.specs.Scene.{Given, given}
 use Rattle.hosting.specs.Stands.{Stands, stands}
 use Rattle.hosting.specs.Ending.{ended, end_of, done_of}
@@ -54,11 +55,11 @@ module _ {b s r : List ℕ} {n : ℕ} {w₀ o₀ : List ℕ} {q : Bool} {w o : L
 -- ---- what the caller is given
 
 module _ {b s r : List ℕ} {n : ℕ} {w₀ o₀ : List ℕ} {q : Bool} {w o : List ℕ} where
-  pub gives_evals : {e : Outcome} → Evaluates b s r n w₀ o₀ q w o → end_of e ≡ end_in q w → Evals b s r n w₀ o₀ e w o
+  pub gives_evals : {e : Result Val Short} → Evaluates b s r n w₀ o₀ q w o → end_of e ≡ end_in q w → Evals b s r n w₀ o₀ e w o
   gives_evals ev l = record { goes = λ t i. told l (ev.goes t i) }
 
-  pub gives_executes : {d : Done} → Assigns b s r n w₀ o₀ q w o → done_of d ≡ told_end q w → Executes b s r n w₀ o₀ d w o
+  pub gives_executes : {d : Result code.Did Short} → Assigns b s r n w₀ o₀ q w o → done_of d ≡ told_end q w → Executes b s r n w₀ o₀ d w o
   gives_executes ev l = record { goes = λ t i. told l (ev.goes t i) }
 
-  pub gives_other : {k : ℕ} {d : Done} → k ≡ kind_of b n → (k ≡ 13 → ⊥) → Evaluates b s r n w₀ o₀ q w o → done_of d ≡ noted_end k q w → Executes b s r n w₀ o₀ d w o
+  pub gives_other : {k : ℕ} {d : Result code.Did Short} → k ≡ kind_of b n → (k ≡ 13 → ⊥) → Evaluates b s r n w₀ o₀ q w o → done_of d ≡ noted_end k q w → Executes b s r n w₀ o₀ d w o
   gives_other {k} ek ne ev l = record { goes = λ t i. told (l ∙ ap (λ (j : ℕ). noted_end j q w) ek) (other_goes ev (λ z. ne (ek ∙ z)) i q refl) }

@@ -2,7 +2,7 @@
 use mathlib.Core.Path.{◌≡◌, refl, sym, ap, ◌∙◌, subst}
 use mathlib.Core.Bool.{Bool, true, false, not, ◌&&◌}
 use mathlib.Core.List.{List, []}
-use mathlib.Core.Option.{Option, none, some}
+use Rattle.std.specs.Prelude.{Option, None, Some}
 use Prim.Native.Nat.{ℕ, ◌+◌, ◌≤◌, ◌<◌}
 use native.Mathlib.Omega.{arith}
 use lib.ListN.{get_or}
@@ -43,7 +43,7 @@ use Rattle.machine.proofs.Evaluating.{by, gave_on, fell_on, result_is, ready_on}
 -- ---- what the tables tell of a Cast
 
 abbrev points_of : Bool → List ℕ → Option Ty
-points_of z text = elim (z && ends_star text) [ true ↦ some (type_of (before_star text)) | false ↦ none ]
+points_of z text = elim (z && ends_star text) [ true ↦ Some (type_of (before_star text)) | false ↦ None ]
 
 points_pick : (z : Bool) (text : List ℕ) → points_of z text ≡ pick_if z (pointee text)
 points_pick true text = refl
@@ -72,16 +72,16 @@ target_narrow r f p = targeting.target_narrow r.ready.narrow (λ e. cast_type e 
 -- ---- a pointer's run
 
 abbrev pointer_as : Term → Option Ty → Act (Val × Ty)
-pointer_as t (some p) = eval (kid 0 (kids t)) >>= λ v. done (v, p)
-pointer_as t none = eval t >>= λ v. done (v, type 64 true)
+pointer_as t (Some p) = eval (kid 0 (kids t)) >>= λ v. done (v, p)
+pointer_as t None = eval t >>= λ v. done (v, type 64 true)
 
 pointer_is : (E : Env) (t : Term) → pointer E t ≡ pointer_as t (pointee_of E t)
 unfolding pointer
 pointer_is E t = go (pointee_of E t)
   where
-    go : (z : Option Ty) → ◌≡◌ {A = Act (Val × Ty)} (elim z [ some p ↦ eval (kid 0 (kids t)) >>= λ v. done (v, p) | none ↦ eval t >>= λ v. done (v, type 64 true) ]) (pointer_as t z)
-    go none = refl
-    go (some p) = refl
+    go : (z : Option Ty) → ◌≡◌ {A = Act (Val × Ty)} (elim z [ Some p ↦ eval (kid 0 (kids t)) >>= λ v. done (v, p) | None ↦ eval t >>= λ v. done (v, type 64 true) ]) (pointer_as t z)
+    go None = refl
+    go (Some p) = refl
 
 -- with a type, what is evaluated for it
 typed : {g : How → Given} {m : Scene → Act Val} {w₀ o₀ : List ℕ} {w o : List ℕ} (v : Val) (y : Short) (ty : Ty) (q : Bool) → Goes g m w₀ o₀ (end_by q v y) w o
@@ -92,15 +92,15 @@ typed v y ty false p = halts _ _ p
 module _ {b s r : List ℕ} {n : ℕ} {w₀ o₀ : List ℕ} (v : Val) (y : Short) {w o : List ℕ} where
   pointer_cast : {ts : Trees} (q : Bool) (ty : Ty) → Shape b 8 n ts
       → ((u : Tree) → Stands b (n + 1) u → Goes (given b s r) (λ x. eval (look x.env u)) w₀ o₀ (end_by q v y) w o)
-      → Goes (given b s r) (λ x. pointer_as (look x.env (tree (node_of b n) ts)) (some ty)) w₀ o₀ (end_by {A = Val × Ty} q (v, ty) y) w o
+      → Goes (given b s r) (λ x. pointer_as (look x.env (tree (node_of b n) ts)) (Some ty)) w₀ o₀ (end_by {A = Val × Ty} q (v, ty) y) w o
   unfolding look kid
   pointer_cast q ty (a_cast {a = u} l h e) f = typed v y ty q (f u h)
 
   pointer_as_lem : {t : Tree} (q : Bool) (z : Option Ty) → pointee_in b w₀ n ≡ z → Stands b n t
       → ((u : Tree) → Stands b (under_if z n) u → Goes (given b s r) (λ x. eval (look x.env u)) w₀ o₀ (end_by q v y) w o)
       → Goes (given b s r) (λ x. pointer_as (look x.env t) z) w₀ o₀ (end_by {A = Val × Ty} q (v, type_or z) y) w o
-  pointer_as_lem q none e h f = typed v y (type 64 true) q (f _ h)
-  pointer_as_lem q (some ty) e (stands {ts = ts} i h) f = pointer_cast q ty (subst (λ (j : ℕ). Shape b j n ts) (cast_if b w₀ n e) h) f
+  pointer_as_lem q None e h f = typed v y (type 64 true) q (f _ h)
+  pointer_as_lem q (Some ty) e (stands {ts = ts} i h) f = pointer_cast q ty (subst (λ (j : ℕ). Shape b j n ts) (cast_if b w₀ n e) h) f
 
   pointer_on : {t : Tree} (q : Bool) → (kind_of b n ≡ 8 → ref_of b n < 512) → Stands b n t
       → ((u : Tree) → Stands b (under_if (pointee_in b w₀ n) n) u → Goes (given b s r) (λ x. eval (look x.env u)) w₀ o₀ (end_by q v y) w o)

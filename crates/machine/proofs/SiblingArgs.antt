@@ -1,7 +1,8 @@
 -- How far the loop over a Call's arguments has come: what is still to be done gives the whole. Assumes nothing.
-use mathlib.Core.Path.{◌≡◌, refl, sym, ◌∙◌, subst}
+use mathlib.Core.Path.{◌≡◌, refl, sym, ap, ◌∙◌, subst}
 use mathlib.Core.Bool.{Bool, true, false}
 use mathlib.Core.List.{List}
+use Rattle.std.specs.Prelude.{Option, None, Some}
 use Prim.Native.Nat.{ℕ, ◌+◌, ◌-◌, ◌≤◌, ◌<◌}
 use native.Mathlib.Nat.{le_refl}
 use native.Mathlib.Omega.{arith}
@@ -20,7 +21,7 @@ use Rattle.hosting.proofs.Shapes.{arg_here, args_more, args_few}
 use Rattle.operations.proofs.Going.{told, ready_after, by_true}
 use Rattle.machine.proofs.Ranks.{next_past}
 use Rattle.machine.proofs.Siblings.{kid_before}
-use Rattle.machine.proofs.Calling.{filled_by, args_end, args_evals, args_short, args_count, args_cut}
+use Rattle.machine.proofs.Calling.{more, args_end, args_evals, args_short, args_told, more_none, more_one}
 
 -- the arguments from node n up to node e: the loop is at node i, whose value is value j, with these bytes
 pub record ArgsSoFar (b s r : List ℕ) (n e : ℕ) (w₀ o₀ vals₀ : List ℕ) (i j : ℕ) (w o vals : List ℕ) : Type 0 where
@@ -28,14 +29,14 @@ pub record ArgsSoFar (b s r : List ℕ) (n e : ℕ) (w₀ o₀ vals₀ : List �
   pub ready : ReadyIn (given b s r) w
   pub fine : FineArgs b i e j
   pub long : length vals ≡ 224
-  pub rest : {p : Bool} {c : ℕ} {vals' w' o' : List ℕ} → EvaluatesArgs b s r i e j w o (filled_by p c) vals vals' w' o' → EvaluatesArgs b s r n e 0 w₀ o₀ (filled_by p (c + j)) vals₀ vals' w' o'
+  pub rest : (p : Option ℕ) {vals' w' o' : List ℕ} → EvaluatesArgs b s r i e j w o p vals vals' w' o' → EvaluatesArgs b s r n e 0 w₀ o₀ (more j p) vals₀ vals' w' o'
 
 pub args_start : {b s r : List ℕ} {n e : ℕ} {w o vals : List ℕ} → ReadyIn (given b s r) w → FineArgs b n e 0 → length vals ≡ 224 → ArgsSoFar b s r n e w o vals n 0 w o vals
-args_start p f l = record { past = le_refl _; ready = p; fine = f; long = l; rest = λ x. args_count (omega arith) x }
+args_start p f l = record { past = le_refl _; ready = p; fine = f; long = l; rest = λ p x. args_told (sym (more_none p)) x }
 
 module _ {b s r : List ℕ} {n e : ℕ} {w₀ o₀ vals₀ : List ℕ} {i j : ℕ} {w o vals : List ℕ} (so : ArgsSoFar b s r n e w₀ o₀ vals₀ i j w o vals) where
-  pub args_done : i ≡ e → EvaluatesArgs b s r n e 0 w₀ o₀ (filled_by true j) vals₀ vals w o
-  args_done z = args_count (omega arith) (so.rest (args_end z so.fine))
+  pub args_done : i ≡ e → EvaluatesArgs b s r n e 0 w₀ o₀ (Some j) vals₀ vals w o
+  args_done z = args_told (ap (λ (c : ℕ). Some c) (omega arith)) (so.rest (Some 0) (args_end z so.fine))
 
   module _ (ne : i ≡ e → ⊥) where
     pub args_less : {m : ℕ} → m ≡ next b i → e - m < e - i
@@ -45,8 +46,8 @@ module _ {b s r : List ℕ} {n e : ℕ} {w₀ o₀ vals₀ : List ℕ} {i j : �
     args_room = args_few ne so.fine
 
     module _ {q : Bool} {w₁ o₁ : List ℕ} (ev : Evaluates b s r i w o q w₁ o₁) where
-      pub args_stopped : q ≡ false → EvaluatesArgs b s r n e 0 w₀ o₀ (filled_by false 0) vals₀ vals w₁ o₁
-      args_stopped eq = args_cut (so.rest (args_short ne ev so.fine eq))
+      pub args_stopped : q ≡ false → EvaluatesArgs b s r n e 0 w₀ o₀ None vals₀ vals w₁ o₁
+      args_stopped eq = so.rest None (args_short ne ev so.fine eq)
 
       pub arg_ready : q ≡ true → ReadyIn (given b s r) w₁
       arg_ready eq = let f = arg_here ne so.fine in ready_after (told (sym (by_true (short_in w₁) eq refl)) (ev.goes f.tree f.spells)) so.ready
@@ -59,6 +60,6 @@ module _ {b s r : List ℕ} {n e : ℕ} {w₀ o₀ vals₀ : List ℕ} {i j : �
         ready = arg_ready eq;
         fine = args_more ne so.fine em;
         long = same ∙ so.long;
-        rest = λ x. args_count (omega arith)
-            (so.rest (args_evals ne ev (omega (arith, so.long, args_few ne so.fine)) eq em (subst (λ (z : Val). PutsVal vals j z vals') ev' put) x));
+        rest = λ p x. args_told (more_one j p)
+            (so.rest (more 1 p) (args_evals ne ev (omega (arith, so.long, args_few ne so.fine)) eq em (subst (λ (z : Val). PutsVal vals j z vals') ev' put) p x));
       }

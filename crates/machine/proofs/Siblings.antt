@@ -1,4 +1,5 @@
 -- How far a loop over trees side by side has come: what is still to be done gives the whole. Assumes nothing.
+use Rattle.std.specs.Prelude.{Option, Some}
 use mathlib.Core.Path.{◌≡◌, refl}
 use mathlib.Core.Bool.{Bool, true, false, not}
 use mathlib.Core.List.{List}
@@ -9,8 +10,6 @@ use Rattle.value.specs.declared.Val.{Val}
 use Rattle.files.specs.Program.{Trees}
 use Rattle.files.specs.Spells.{next}
 use Rattle.definition.specs.Term.{nothing}
-use Rattle.workspace.specs.declared.variables.Slot.{Slot}
-use Rattle.workspace.specs.declared.variables.Slot.TheVariants.{Set}
 use Rattle.hosting.specs.Scene.{given}
 use Rattle.hosting.specs.Stands.{KidsAt, no_kid, a_kid, FineKids}
 use Rattle.operations.specs.Going.{ReadyIn}
@@ -51,7 +50,7 @@ module _ {b s r : List ℕ} {n e : ℕ} {w₀ o₀ : List ℕ} {i : ℕ} {w o : 
     }
 
     -- a tree whose value is at hand, and one that is evaluated
-    pub kids_skipped : {slot : Slot} {v : Val} {m : ℕ} → AtHand b i w slot → slot ≡ Set v → m ≡ next b i → KidsSoFar b s r n e w₀ o₀ m w o
+    pub kids_skipped : {slot : Option Val} {v : Val} {m : ℕ} → AtHand b i w slot → slot ≡ Some v → m ≡ next b i → KidsSoFar b s r n e w₀ o₀ m w o
     kids_skipped a h em = kids_on (valued_at_hand a h) em
 
     module _ {p : Bool} {w₁ o₁ : List ℕ} (ev : Evaluates b s r i w o p w₁ o₁) where

@@ -17,6 +17,8 @@ use Rattle.definition.specs.Evaluate.{Env, Did, did, look, looks, assign_struct,
 use Rattle.workspace.specs.Parts.{tables, registers_part}
 use Rattle.workspace.specs.Registers.{value_at}
 use Rattle.workspace.specs.Types.{type_at}
+use Rattle.stream.specs.declared.Reason.TheVariants.{StructTo, UnknownAddress}
+use Rattle.hosting.specs.declared.Short.TheVariants.{Why}
 use Rattle.hosting.specs.declared.How.{How}
 use Rattle.hosting.specs.Scene.{Given, given, Scene}
 use Rattle.hosting.specs.Stands.{Stands, stands, Shape, a_cast, a_deref, a_struct, FieldsAt, no_field, a_field}
@@ -106,7 +108,7 @@ through {b} {s} {r} {l} fs {w₀} {o₀} {e} {w} {o} k (stands {ts = ts} i h) f 
         → Goes (given b s r) (λ x. eval (base_of (kid 0 (looks x.env us))) >>= store_struct x.env (node (base_of (kid 0 (looks x.env us)))).place (fs x)) w₀ o₀ e w o
     from (a_deref {a = c} q z) = from_base c q
 
-pub odd_struct : {b s r : List ℕ} {l m : ℕ} {w₀ o₀ : List ℕ} {k : ℕ} {d : Bool} {w : List ℕ} → k ≡ kind_of b l → (k ≡ 9 → ⊥) → GivesShort w₀ (record { reason = 4; number = l }) d w
+pub odd_struct : {b s r : List ℕ} {l m : ℕ} {w₀ o₀ : List ℕ} {k : ℕ} {d : Bool} {w : List ℕ} → k ≡ kind_of b l → (k ≡ 9 → ⊥) → GivesShort w₀ (Why StructTo l) d w
     → AssignsStruct b s r l m w₀ o₀ d w o₀
 unfolding look
 odd_struct {b} {s} {r} {l} {m} {w₀} {o₀} {k} {d} {w} p ne e = record { goes = λ t u h i. go t u h }
@@ -147,7 +149,7 @@ stores_read : {b s r : List ℕ} {n m : ℕ} {v : Val} {w₀ o₀ : List ℕ} {d
     → StoresStruct b s r n m (result_in w₀) w₀ o₀ d w o
 stores_read {b} {s} {r} {n} {m} {v} {w₀} {o₀} {d} {w} {o} q e = subst (λ (z : Val). StoresStruct b s r n m z w₀ o₀ d w o) (sym (result_is w₀ q)) e
 
-pub unknown_stores : {b s r : List ℕ} {n m : ℕ} {v : Val} {w₀ o₀ : List ℕ} {d : Bool} {w : List ℕ} → v ≡ value_at (registers_part w₀) 0 → v.known ≡ false → GivesShort w₀ (record { reason = 5; number = n }) d w
+pub unknown_stores : {b s r : List ℕ} {n m : ℕ} {v : Val} {w₀ o₀ : List ℕ} {d : Bool} {w : List ℕ} → v ≡ value_at (registers_part w₀) 0 → v.known ≡ false → GivesShort w₀ (Why UnknownAddress n) d w
     → StoresStruct b s r n m (result_in w₀) w₀ o₀ d w o₀
 unknown_stores {n = n} {v = v} {w = w} q e g = stores_read q (record { goes = λ u h. acts (λ _ x _. on_unknown x.env n _ v e) (short_goes (told_in w) g refl) })
 

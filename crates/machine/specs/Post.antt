@@ -1,15 +1,13 @@
 -- What the functions of the cycle ensure: each does what the definition says of the tree that stands at its node. Assumes nothing.
-use Rattle.std.specs.Prelude.{Bool, true, ◌≡◌, List, ℕ, ◌+◌, ◌*◌, ◌^◌, ◌<◌, ◌≤◌, length, take}
-use Rattle.std.proofs.Math.Option.{none, some}
+use Rattle.std.specs.Prelude.{Bool, ◌≡◌, List, ℕ, ◌+◌, ◌*◌, ◌^◌, ◌<◌, ◌≤◌, length, take, Option, None, Some, is_some, Result}
 use Rattle.value.specs.declared.Val.{Val}
 use Rattle.files.specs.Program.{Tree, Trees}
 use Rattle.definition.specs.Act.{Act, done, fail, unknown_address, fields_written, ◌>>◌}
 use Rattle.definition.specs.Term.{Terms, eval, evals, kids, count, nothing}
 use Rattle.definition.specs.Evaluate.{Env, Did, did, number_in, look, looks, execute, assign_struct, assign_val, store_fields}
 use Rattle.value.specs.Encoding.{value_size}
-use Rattle.hosting.specs.declared.Outcome.{Outcome}
-use Rattle.hosting.specs.declared.Done.{Done}
-use Rattle.machine.specs.declared.Filled.{Filled}
+use Rattle.hosting.specs.declared.Short.{Short}
+use Rattle.hosting.specs.declared.Did as declared
 use Rattle.hosting.specs.Scene.{given}
 use Rattle.hosting.specs.Stands.{Stands, KidsAt, FieldsAt}
 use Rattle.hosting.specs.Ending.{end_of, done_of}
@@ -24,11 +22,11 @@ abbrev pub ReadyBy : List ℕ → List ℕ → List ℕ → List ℕ → Type 0
 ReadyBy b s r w = ReadyIn (given b s r) w × (length b < 2 ^ 64)
 
 -- the tree at node n is evaluated
-pub record Evals (b s r : List ℕ) (n : ℕ) (w₀ o₀ : List ℕ) (q : Outcome) (w o : List ℕ) : Type 0 where
+pub record Evals (b s r : List ℕ) (n : ℕ) (w₀ o₀ : List ℕ) (q : Result Val Short) (w o : List ℕ) : Type 0 where
   pub goes : (t : Tree) → Stands b n t → Goes (given b s r) (λ x. eval (look x.env t)) w₀ o₀ (end_of q) w o
 
 -- it is executed
-pub record Executes (b s r : List ℕ) (n : ℕ) (w₀ o₀ : List ℕ) (q : Done) (w o : List ℕ) : Type 0 where
+pub record Executes (b s r : List ℕ) (n : ℕ) (w₀ o₀ : List ℕ) (q : Result declared.Did Short) (w o : List ℕ) : Type 0 where
   pub goes : (t : Tree) → Stands b n t → Goes (given b s r) (λ x. execute x.env (look x.env t)) w₀ o₀ (done_of q) w o
 
 -- ---- the same, told by the registers
@@ -45,12 +43,11 @@ pub record EvaluatesKids (b s r : List ℕ) (n e : ℕ) (w₀ o₀ : List ℕ) (
   pub goes : (ts : Trees) → KidsAt b n e ts → Goes (given b s r) (λ x. evals (looks x.env ts) >> done nothing) w₀ o₀ (end_in q w) w o
 
 -- arguments, whose values are put in bytes from value k on
-pub record EvaluatesArgs (b s r : List ℕ) (n e k : ℕ) (w₀ o₀ : List ℕ) (q : Filled) (vals vals' w o : List ℕ) : Type 0 where
+pub record EvaluatesArgs (b s r : List ℕ) (n e k : ℕ) (w₀ o₀ : List ℕ) (q : Option ℕ) (vals vals' w o : List ℕ) : Type 0 where
   pub values : List Val
-  pub filled : q.ok ≡ true → ValuesIn vals' k q.count values
-  pub goes : (ts : Trees) → KidsAt b n e ts → Goes (given b s r) (λ x. evals (looks x.env ts)) w₀ o₀ (end_by q.ok values (short_in w)) w o
+  pub filled : (count : ℕ) → q ≡ Some count → ValuesIn vals' k count values × (count + k ≤ 16)
+  pub goes : (ts : Trees) → KidsAt b n e ts → Goes (given b s r) (λ x. evals (looks x.env ts)) w₀ o₀ (end_by (is_some q) values (short_in w)) w o
   pub before : take (k * value_size) vals' ≡ take (k * value_size) vals
-  pub few : q.count + k ≤ 16
 
 -- ---- Assign
 
@@ -65,8 +62,8 @@ pub record AssignsStruct (b s r : List ℕ) (l m : ℕ) (w₀ o₀ : List ℕ) (
 -- its fields, to the address that a value is; node n gave the value
 unfoldable pub store_struct : Env → ℕ → Terms → Val → Act Did
 store_struct E n fields v = elim (number_in v) [
-  | none ↦ fail (unknown_address n)
-  | some a ↦ store_fields E a fields >> done (did (fields_written a (count fields)))
+  | None ↦ fail (unknown_address n)
+  | Some a ↦ store_fields E a fields >> done (did (fields_written a (count fields)))
 ]
 
 pub record StoresStruct (b s r : List ℕ) (n m : ℕ) (v : Val) (w₀ o₀ : List ℕ) (q : Bool) (w o : List ℕ) : Type 0 where

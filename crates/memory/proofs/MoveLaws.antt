@@ -1,6 +1,7 @@
 -- Bytes moved within a list: turn by turn, through a lent part, and what stays where it is. Assumes nothing.
 use Rattle.std.proofs.Common.{◌≡◌, ℕ, suc, ◌+◌, ◌-◌, ◌<◌, ◌≤◌, List, [], ◌∷◌, ◌++◌, length, get_or, take, drop, set, sym, refl, ap, ◌∙◌, subst, suc-add, zero-add, add-one, arith, length-drop, take-append-drop, length-take, length-take-le, get_or-drop, take_all, drop-cons, get_or-set_other, take-suc, drop-drop, take_at, take-add}
 use lib.Seq.{sets, sets-eq, set_comm}
+use Rattle.std.specs.List.{copy_within}
 use borrow.Rule.Slice.PartMut.{mid_of, put_mid}
 use Rattle.layout.proofs.StoreLaws.{sets_append, put_sets, take_sets, drop_sets, drop_sets_at, drop_take}
 
@@ -57,17 +58,9 @@ lowered_more s g k h =
     sets_append (take k t) (get_or t k 0 ∷ []) s 0 ∙ ap (λ (i : ℕ). set (lowered s g k) i (get_or t k 0)) (zero-add (length (take k t)) ∙ l) in
     rw x (sym a ∙ ap (sets s 0) (sym (take-suc t k 0 lt)) ∙ ap (λ (i : ℕ). sets s 0 (take i t)) (sym (add-one k)))
 
--- ---- by a distance that is known
-
-pub up_by : (s t : List ℕ) (n d by : ℕ) → by ≡ d → t ≡ sets s d (take n s) → t ≡ sets s by (take n s)
-up_by s t n d by e h = h ∙ ap (λ (i : ℕ). sets s i (take n s)) (sym e)
-
-pub down_by : (s t : List ℕ) (n d by : ℕ) → by ≡ d → t ≡ sets s 0 (take n (drop d s)) → t ≡ sets s 0 (take n (drop by s))
-down_by s t n d by e h = h ∙ ap (λ (i : ℕ). lowered s i n) (sym e)
-
 -- ---- through the rest of the list from a on, which is lent
 
-module _ (s : List ℕ) (a b n : ℕ) (fits : b + n ≤ length s) where
+module _ (s : List ℕ) (a g n : ℕ) (fits : a + g + n ≤ length s) where
   abbrev rest : List ℕ
   rest = mid_of a (length s - a) s
 
@@ -77,30 +70,35 @@ module _ (s : List ℕ) (a b n : ℕ) (fits : b + n ≤ length s) where
   length_rest : length rest ≡ length s - a
   length_rest = ap length rest_is ∙ length-drop a s
 
-  pub slid_up : (t : List ℕ) → a ≤ b → t ≡ sets rest (b - a) (take n rest) → put_mid a (length s - a) s t ≡ sets s b (take n (drop a s))
-  slid_up t h e =
-      let k : a + (b - a) ≡ b = omega arith in
+  pub slid_up : (t : List ℕ) (b : ℕ) → a + g ≡ b → t ≡ sets rest g (take n rest) → put_mid a (length s - a) s t ≡ sets s b (take n (drop a s))
+  slid_up t b k e =
       ap (put_mid a (length s - a) s) e
-      ∙ put_sets (take n rest) s a (length s - a) (b - a) (omega (arith, length_rest, length-take n rest))
+      ∙ put_sets (take n rest) s a (length s - a) g (omega (arith, length_rest, length-take n rest))
       ∙ rw (k, rest_is)
 
-  pub slid_down : (t : List ℕ) → a ≤ b → t ≡ sets rest 0 (take n (drop (b - a) rest)) → put_mid a (length s - a) s t ≡ sets s a (take n (drop b s))
-  slid_down t h e =
-      let vs : List ℕ = take n (drop (b - a) rest) in
-      let k : a + (b - a) ≡ b = omega arith in
+  pub slid_down : (t : List ℕ) (b : ℕ) → a + g ≡ b → t ≡ sets rest 0 (take n (drop g rest)) → put_mid a (length s - a) s t ≡ sets s a (take n (drop b s))
+  slid_down t b k e =
+      let vs : List ℕ = take n (drop g rest) in
       let z : a + 0 ≡ a = omega arith in
-      let d : drop (b - a) rest ≡ drop b s = ap (drop (b - a)) rest_is ∙ drop-drop (b - a) a s ∙ ap (λ (i : ℕ). drop i s) k in
+      let d : drop g rest ≡ drop b s = ap (drop g) rest_is ∙ drop-drop g a s ∙ ap (λ (i : ℕ). drop i s) k in
       ap (put_mid a (length s - a) s) e
-      ∙ put_sets vs s a (length s - a) 0 (omega (arith, length_rest, length-take n (drop (b - a) rest), length-drop (b - a) rest))
+      ∙ put_sets vs s a (length s - a) 0 (omega (arith, length_rest, length-take n (drop g rest), length-drop g rest))
       ∙ rw (z, d)
 
-  pub slid_none : a ≡ b → s ≡ sets s a (take n (drop b s))
-  slid_none e =
-      let vs : List ℕ = take n (drop b s) in
-      let l : length vs ≡ n = length-take-le n (drop b s) (rw length-drop (omega arith)) in
-      let x : sets s a vs ≡ take b s ++ vs ++ drop (b + n) s =
-      ap (λ (i : ℕ). sets s i vs) e ∙ sets-eq vs s b (omega arith) ∙ ap (λ (i : ℕ). take b s ++ vs ++ drop (b + i) s) l in
-      sym (x ∙ ap (λ (t : List ℕ). t ++ drop (b + n) s) (sym (take-add b n s)) ∙ take-append-drop (b + n) s)
+-- ---- copied by the library, or where they are
+
+pub moved : (s : List ℕ) (a b n e : ℕ) → b + n ≡ e → e ≤ length s → a + n ≤ length s → copy_within s b e a ≡ sets s a (take n (drop b s))
+moved s a b n e h f g =
+    let vs : List ℕ = take n (drop b s) in
+    let l : length vs ≡ n = length-take-le n (drop b s) (rw length-drop (omega arith)) in
+    let k : e - b ≡ n = omega arith in
+    rw k (sym (sets-eq vs s a (omega arith) ∙ ap (λ (i : ℕ). take a s ++ vs ++ drop (a + i) s) l))
+
+pub unmoved : (s : List ℕ) (b n : ℕ) → b + n ≤ length s → s ≡ sets s b (take n (drop b s))
+unmoved s b n h =
+    let vs : List ℕ = take n (drop b s) in
+    let l : length vs ≡ n = length-take-le n (drop b s) (rw length-drop (omega arith)) in
+    sym (sets-eq vs s b (omega arith) ∙ ap (λ (i : ℕ). take b s ++ vs ++ drop (b + i) s) l ∙ ap (λ (t : List ℕ). t ++ drop (b + n) s) (sym (take-add b n s)) ∙ take-append-drop (b + n) s)
 
 -- ---- what is stored at i, and what stays below and above
 

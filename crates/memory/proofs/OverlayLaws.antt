@@ -1,6 +1,6 @@
 -- Finding and storing, by rank; an ascending list stays so; a run of bytes takes the place of the entries that have its addresses. Assumes nothing.
 use Rattle.std.proofs.Common.{◌≡◌, ℕ, zero, suc, ◌+◌, ◌%◌, ◌^◌, ◌<◌, ◌≤◌, List, [], ◌∷◌, ◌++◌, length, get_or, take, drop, sym, refl, ap, ◌∙◌, suc-le-suc, le_trans, le_of_suc-le-suc, add-zero, add-suc, mod-eq_of_lt, suc-add, arith}
-use mathlib.Core.Option.{none, some}
+use Rattle.std.specs.Prelude.{None, Some}
 use Prim.Native.Nat.compare
 use Prim.Native.Nat.{Ordering}
 use Prim.Native.Nat.{compare}
@@ -27,8 +27,8 @@ compared (suc a) (suc b) = up (compared a b)
 module _ {C : Type 0} where
   -- how an address compares with that of the first entry, with what it says
   pub data First (a : ℕ) (p : ℕ × C) (m : Overlay C) : Type 0 where
-    less : a < p.0 → rank a (p ∷ m) ≡ 0 → find a (p ∷ m) ≡ none → ((c : C) → store a c (p ∷ m) ≡ (a, c) ∷ p ∷ m) → First a p m
-    same : a ≡ p.0 → rank a (p ∷ m) ≡ 0 → find a (p ∷ m) ≡ some p.1 → ((c : C) → store a c (p ∷ m) ≡ (a, c) ∷ m) → First a p m
+    less : a < p.0 → rank a (p ∷ m) ≡ 0 → find a (p ∷ m) ≡ None → ((c : C) → store a c (p ∷ m) ≡ (a, c) ∷ p ∷ m) → First a p m
+    same : a ≡ p.0 → rank a (p ∷ m) ≡ 0 → find a (p ∷ m) ≡ Some p.1 → ((c : C) → store a c (p ∷ m) ≡ (a, c) ∷ m) → First a p m
     more : p.0 < a → rank a (p ∷ m) ≡ suc (rank a m) → find a (p ∷ m) ≡ find a m → ((c : C) → store a c (p ∷ m) ≡ p ∷ store a c m) → First a p m
 
   pub first : (a : ℕ) (p : ℕ × C) (m : Overlay C) → First a p m
@@ -84,13 +84,13 @@ module _ {C : Type 0} where
   stands_first r e = record { there = omega arith; is = rw r (sym e) }
 
   -- an address that stands at its rank is found there
-  pub find_at : (a : ℕ) (d : C) (m : Overlay C) → Stands a d m → find a m ≡ some (get_or m (rank a m) (0, d)).1
+  pub find_at : (a : ℕ) (d : C) (m : Overlay C) → Stands a d m → find a m ≡ Some (get_or m (rank a m) (0, d)).1
   find_at a d [] h = absurd (omega arith)
   find_at a d (p ∷ m) h =
       elim (first a p m) [ less k r f s ↦ absurd (stands_not r k h) | same k r f s ↦ rw (f, r) | more k r f s ↦ rw (f, r) (find_at a d m (stands_tail r h)) ]
 
   -- an address that does not is not found
-  pub find_none : (a : ℕ) (d : C) (m : Overlay C) → (Stands a d m → ⊥) → find a m ≡ none
+  pub find_none : (a : ℕ) (d : C) (m : Overlay C) → (Stands a d m → ⊥) → find a m ≡ None
   unfolding find store
   find_none a d [] n = refl
   find_none a d (p ∷ m) n =
@@ -153,7 +153,7 @@ module _ {C : Type 0} where
   each_later a b [] h all = tt
   each_later a b (p ∷ m) h all = (omega (arith, all.0), each_later a b m h all.1)
 
-  pub rank_found : (a : ℕ) (m : Overlay C) → Ascending m → (find a m ≡ none → ⊥) → rank (suc a) m ≡ suc (rank a m)
+  pub rank_found : (a : ℕ) (m : Overlay C) → Ascending m → (find a m ≡ None → ⊥) → rank (suc a) m ≡ suc (rank a m)
   unfolding find
   rank_found a [] s n = absurd (n refl)
   rank_found a (p ∷ m) s n =
@@ -163,7 +163,7 @@ module _ {C : Type 0} where
         | more k r f t ↦ rank_past (suc a) p m (omega arith) ∙ ap suc (rank_found a m s.1 (λ e. n (f ∙ e))) ∙ ap suc (sym r)
       ]
 
-  pub rank_lost : (a : ℕ) (m : Overlay C) → find a m ≡ none → rank (suc a) m ≡ rank a m
+  pub rank_lost : (a : ℕ) (m : Overlay C) → find a m ≡ None → rank (suc a) m ≡ rank a m
   rank_lost a [] n = refl
   rank_lost a (p ∷ m) n =
       elim (first a p m) [

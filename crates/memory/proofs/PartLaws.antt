@@ -1,5 +1,5 @@
 -- The row of entries of a part: where it is, and its bytes as a record's body. Assumes nothing.
-use Rattle.std.proofs.Common.{◌≡◌, ℕ, zero, suc, ◌+◌, ◌-◌, ◌*◌, ◌≤◌, List, ◌++◌, length, take, drop, sym, refl, ap, ◌∙◌, subst, arith, length-drop, length-take, take_all}
+use Rattle.std.proofs.Common.{◌≡◌, ℕ, zero, suc, ◌+◌, ◌-◌, ◌*◌, ◌≤◌, List, length, take, drop, sym, refl, ap, ◌∙◌, subst, arith, length-drop, length-take, take_all, take-take}
 use Rattle.layout.specs.Each.{Bytes}
 use Rattle.layout.specs.Number.{number_at}
 use Rattle.layout.specs.Format.{writes, reads}
@@ -46,21 +46,23 @@ lent_row s n f e q =
       ascending = subst Ascending (sym (lent s n f e)) q.ascending;
     }
 
-pub lent_spans : (s : List ℕ) (n f : ℕ) → f ≡ first s n → (r : Span) (a b : ℕ) → Spans (row_of (take (length s - f * entry_size) (drop (f * entry_size) s)) n) n r a b → Spans (entries s n) n r a b
-lent_spans s n f e r a b h = subst (λ (m : Overlay Cell). Spans m n r a b) (lent s n f e) h
-
 pub length_entries : (s : List ℕ) (n : ℕ) → length (entries s n) ≡ n
 unfolding entries
 length_entries s n = length_row (drop (first s n * entry_size) s) n
 
+-- its entries at the addresses of a store
+pub entries_spans : (m : Overlay Cell) (s : List ℕ) (n : ℕ) → m ≡ entries s n → (r : Span) (a b : ℕ) → Spans m (length m) r a b → Spans (entries s n) n r a b
+entries_spans m s n e r a b h =
+    subst (λ (k : ℕ). Spans (entries s n) k r a b) (length_entries s n) (subst (λ (o : Overlay Cell). Spans o (length o) r a b) e h)
+
 -- the Memory body is the bytes of the row
-pub copied : (s t out : List ℕ) (n f : ℕ) → f ≡ first s n → Sorted s n → Bytes s
-    → t ≡ take (n * entry_size) (take (length s - f * entry_size) (drop (f * entry_size) s)) ++ drop (n * entry_size) out
-    → t ≡ memory_body (entries s n) ++ drop (n * entry_size) out
+pub copied : (s t : List ℕ) (n f : ℕ) → f ≡ first s n → Sorted s n → Bytes s
+    → t ≡ take (n * entry_size) (drop (f * entry_size) s)
+    → t ≡ memory_body (entries s n)
 unfolding row_of
-copied s t out n f e q all h =
+copied s t n f e q all h =
     let r : List ℕ = take (length s - f * entry_size) (drop (f * entry_size) s) in
     let room : n * entry_size ≤ length r = (lent_row s n f e q).room in
     let w : writes entry (reads entry n r).0 ≡ take (n * entry_size) r =
     writes_reads entry_sized n r room (each_take (length s - f * entry_size) (drop (f * entry_size) s) (each_drop (f * entry_size) s all)) in
-    h ∙ ap (λ (l : List ℕ). l ++ drop (n * entry_size) out) (sym (ap (writes entry) (sym (lent s n f e)) ∙ w))
+    h ∙ sym (take-take (n * entry_size) (length s - f * entry_size) (drop (f * entry_size) s) (omega (arith, room, length-take (length s - f * entry_size) (drop (f * entry_size) s)))) ∙ sym (ap (writes entry) (sym (lent s n f e)) ∙ w)

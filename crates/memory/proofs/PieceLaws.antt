@@ -1,10 +1,12 @@
 -- The bytes of entries that are moved to other places, or stay. Assumes nothing.
-use Rattle.std.proofs.Common.{◌≡◌, ℕ, zero, suc, ◌+◌, ◌*◌, ◌<◌, ◌≤◌, List, length, drop, refl, ap, ◌∙◌, arith, length-drop, length-take-le}
+use Rattle.std.proofs.Common.{◌≡◌, ℕ, zero, suc, ◌+◌, ◌-◌, ◌*◌, ◌<◌, ◌≤◌, List, length, take, drop, refl, ap, ◌∙◌, arith, length-drop, length-take-le}
+use Rattle.std.specs.List.{copy_within}
 use lib.Seq.{sets, length-sets}
+use borrow.Rule.Slice.PartMut.{mid_of, put_mid}
 use Rattle.memory.specs.Entries.{entry_size, piece}
 use Rattle.memory.specs.declared.Move.{Move}
 use Rattle.memory.specs.Post.{SlideBoth, Slid}
-use Rattle.memory.proofs.MoveLaws.{part_at, part_above, part_below}
+use Rattle.memory.proofs.MoveLaws.{moved, unmoved, slid_up, slid_down, part_at, part_above, part_below}
 
 pub length_piece : (s : List ℕ) (i n : ℕ) → (i + n) * entry_size ≤ length s → length (piece s i n) ≡ n * entry_size
 unfolding piece
@@ -21,6 +23,29 @@ piece_above s vs i m j n l h = part_above s vs (i * entry_size) (j * entry_size)
 pub piece_below : (s vs : List ℕ) (i j n : ℕ) → (j + n) * entry_size ≤ i → piece (sets s i vs) j n ≡ piece s j n
 unfolding piece
 piece_below s vs i j n h = part_below s vs i (j * entry_size) (n * entry_size) (omega arith)
+
+-- what copying n entries from place i to place j leaves
+pub slid : (s t : List ℕ) (i j n from to : ℕ) → ((i + n) * entry_size ≤ length s) × ((j + n) * entry_size ≤ length s) → from ≡ i * entry_size → to ≡ j * entry_size
+    → t ≡ copy_within s from (from + n * entry_size) to → t ≡ sets s (j * entry_size) (piece s i n)
+unfolding piece
+slid s t i j n from to h ef et e = e ∙ moved s to from (n * entry_size) (from + n * entry_size) refl (omega arith) (omega arith) ∙ rw (ef, et)
+
+-- moving them within the part from there on by g entries
+pub slid_by : (s t : List ℕ) (i j n g : ℕ) → ((i + n) * entry_size ≤ length s) × ((j + n) * entry_size ≤ length s) → i + g ≡ j
+    → t ≡ sets (mid_of (i * entry_size) (length s - i * entry_size) s) (g * entry_size) (take (n * entry_size) (mid_of (i * entry_size) (length s - i * entry_size) s))
+    → put_mid (i * entry_size) (length s - i * entry_size) s t ≡ sets s (j * entry_size) (piece s i n)
+unfolding piece
+slid_by s t i j n g h e d = slid_up s (i * entry_size) (g * entry_size) (n * entry_size) (omega (arith, h.1)) t (j * entry_size) (omega arith) d
+
+pub slid_back : (s t : List ℕ) (i j n g : ℕ) → ((i + n) * entry_size ≤ length s) × ((j + n) * entry_size ≤ length s) → j + g ≡ i
+    → t ≡ sets (mid_of (j * entry_size) (length s - j * entry_size) s) 0 (take (n * entry_size) (drop (g * entry_size) (mid_of (j * entry_size) (length s - j * entry_size) s)))
+    → put_mid (j * entry_size) (length s - j * entry_size) s t ≡ sets s (j * entry_size) (piece s i n)
+unfolding piece
+slid_back s t i j n g h e d = slid_down s (j * entry_size) (g * entry_size) (n * entry_size) (omega (arith, h.0)) t (i * entry_size) (omega arith) d
+
+pub slid_nowhere : (s : List ℕ) (i j n : ℕ) → (i + n) * entry_size ≤ length s → i ≡ j → s ≡ sets s (j * entry_size) (piece s i n)
+unfolding piece
+slid_nowhere s i j n h e = unmoved s (i * entry_size) (n * entry_size) (omega arith) ∙ rw e
 
 -- of no entries it does not matter where they are
 pub piece_stays : (s : List ℕ) (i j n : ℕ) → (0 < n → i ≡ j) → piece s i n ≡ piece s j n

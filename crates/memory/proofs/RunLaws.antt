@@ -6,15 +6,15 @@ use Rattle.layout.specs.Number.{le, num, number_at, put_number}
 use Rattle.layout.specs.Format.{writes, reads}
 use Rattle.layout.proofs.NumberLaws.{length_le, num_le}
 use Rattle.layout.proofs.FormatLaws.{reads_back}
-use Rattle.memory.specs.declared.Stored.{Stored}
-use Rattle.memory.specs.declared.Stored.TheVariants.{Count, Full}
+use Rattle.std.specs.Prelude.{Result, Ok, Err}
+use Rattle.memory.specs.declared.Full.{Full}
 use Rattle.memory.specs.declared.row.Span.{Span}
 use Rattle.memory.specs.Overlay.{Overlay, Cell, store, stores, run_of, rank, Ascending}
-use Rattle.memory.specs.Entries.{entry, entry_size, limit, row_of, IsRow, first_at, part_size, first, entries, Sorted, piece, overwritten}
+use Rattle.memory.specs.Entries.{entry, entry_size, limit, row_of, first_at, part_size, first, entries, Sorted, piece, overwritten}
 use Rattle.memory.specs.Post.{Holds, Stores, StoresAll, Spans, Spliced, Unmoved}
 use Rattle.memory.proofs.OverlayLaws.{rank_most, stores_one, stores_run, ascending_stores, length_stores}
 use Rattle.memory.proofs.EntryLaws.{length_writes, reads_add, reads_take, reads_front, take_reads, drop_reads}
-use Rattle.memory.proofs.RowLaws.{entry_sized, entry_sound, Fits}
+use Rattle.memory.proofs.RowLaws.{entry_sized, entry_sound, Fits, length_row, row_key}
 use Rattle.memory.proofs.MoveLaws.{part_at, part_above}
 use Rattle.memory.proofs.PartLaws.{first_some, first_said, length_entries}
 use Rattle.memory.proofs.PieceLaws.{piece_at, piece_above, piece_below, piece_stays}
@@ -216,10 +216,10 @@ replaced s s₁ n q all r a v b w some_bytes no_wrap full f ef over =
     let here : f + r.at + b ≡ first s n + r.end = omega arith in
     let lw : length (written a v b) ≡ b * entry_size = length_written a v b in
     let d : List ℕ = drop (first s n * entry_size) s in
-    let row : IsRow d n = record { room = rw length-drop (omega arith); ascending = q.ascending } in
     let there : (k : ℕ) → k < b → number_at s ((f + r.at + k) * entry_size) 8 ≡ a + k = λ k l.
     let x : first s n * entry_size + (r.at + k) * entry_size ≡ (f + r.at + k) * entry_size = omega arith in
-    sym (number_in s (first s n * entry_size) ((r.at + k) * entry_size) ∙ ap (λ (y : ℕ). number_at s y 8) x) ∙ each_there d n a b r.at r.end row w.at w.end within full k l in
+    sym (number_in s (first s n * entry_size) ((r.at + k) * entry_size) ∙ ap (λ (y : ℕ). number_at s y 8) x) ∙ sym (row_key d n (r.at + k) (omega arith))
+    ∙ each_there (row_of d n) q.ascending a b r.at r.end w.at w.end (rw length_row within) full k l in
     let e : s₁ ≡ sets s ((f + r.at) * entry_size) (written a v b) = over ∙ overwritten_is b s (f + r.at) a v all (omega arith) there in
     subst (Holds (stores a (le b v) (entries s n)) s₁) next
     (held s s s₁ n q r a v b (record { span = w; some_bytes = some_bytes; no_wrap = no_wrap; few = omega arith }) f
@@ -244,17 +244,20 @@ one_byte a b m h l =
     let e : b % 256 ≡ b = mod-eq_of_lt l in
     ap (λ (x : ℕ). stores a (x ∷ []) m) e ∙ stores_one a b m h
 
-pub stores_as : (m m' : Overlay Cell) (s s' : List ℕ) (r : Stored) → m ≡ m' → Stores m s s' r → Stores m' s s' r
+pub stores_as : (m m' : Overlay Cell) (s s' : List ℕ) (r : Result ℕ Full) → m ≡ m' → Stores m s s' r → Stores m' s s' r
 stores_as m m' s s' r e h = subst (λ (x : Overlay Cell). Stores x s s' r) e h
 
-pub stores_all : (m : Overlay Cell) (s s' : List ℕ) (r : Stored) → Stores m s s' r → StoresAll m s' r
-stores_all m s s' (Count n) h = h
-stores_all m s s' Full h = h.0
+pub stores_all : (m : Overlay Cell) (s s' : List ℕ) (r : Result ℕ Full) → Stores m s s' r → StoresAll m s' r
+stores_all m s s' (Ok n) h = h
+stores_all m s s' (Err e) h = h.0
 
-pub stored_full : (m : Overlay Cell) (s s' : List ℕ) (r : Stored) → Stores m s s' r → r ≡ Full → limit < length m
-stored_full m s s' r h e = (subst (Stores m s s') e h).0
+pub stored_full : (m : Overlay Cell) (s s' : List ℕ) (r : Result ℕ Full) (e : Full) → Stores m s s' r → r ≡ Err e → limit < length m
+stored_full m s s' r e h g = (subst (Stores m s s') g h).0
 
-pub stored_count : (m : Overlay Cell) (s s' : List ℕ) (r : Stored) (n : ℕ) → Stores m s s' r → r ≡ Count n → Holds m s' n
+pub all_full : (m : Overlay Cell) (s' : List ℕ) (r : Result ℕ Full) (e : Full) → r ≡ Err e → limit < length m → StoresAll m s' r
+all_full m s' r e g h = subst (StoresAll m s') (sym g) h
+
+pub stored_count : (m : Overlay Cell) (s s' : List ℕ) (r : Result ℕ Full) (n : ℕ) → Stores m s s' r → r ≡ Ok n → Holds m s' n
 stored_count m s s' r n h e = subst (Stores m s s') e h
 
 pub each_none : (a n v : ℕ) (m : Overlay Cell) → n ≡ 0 → m ≡ stores a (le n v) m
@@ -263,14 +266,15 @@ each_none a zero v m h = refl
 each_none a (suc n) v m h = absurd (omega arith)
 
 -- a turn of the loop that stores byte by byte
-module _ (m : Overlay Cell) (a n i v at : ℕ) (h : i < n) (e : at ≡ (a + i) % 2 ^ 64) where
-  pub each_turn : (m' : Overlay Cell) → m' ≡ store at (v % 256) m → stores (a + (i + 1)) (le (n - (i + 1)) (v / 256)) m' ≡ stores (a + i) (le (n - i) v) m
+module _ (m : Overlay Cell) (a n i v : ℕ) (h : i < n) where
+  pub each_turn : (m' : Overlay Cell) → m' ≡ store ((a + i) % 2 ^ 64) (v % 256) m → stores (a + (i + 1)) (le (n - (i + 1)) (v / 256)) m' ≡ stores (a + i) (le (n - i) v) m
   unfolding stores
   each_turn m' g =
       let x : n - i ≡ suc (n - (i + 1)) = omega arith in
       let y : a + (i + 1) ≡ suc (a + i) = omega arith in
-      rw (x, y, g, e)
+      rw (x, y, g)
 
-  pub each_full : limit < length (store at (v % 256) m) → limit < length (stores (a + i) (le (n - i) v) m)
+  pub each_full : limit < length (store ((a + i) % 2 ^ 64) (v % 256) m) → limit < length (stores (a + i) (le (n - i) v) m)
   each_full l =
-      omega (arith, length_stores (le (n - (i + 1)) (v / 256)) (a + (i + 1)) (store at (v % 256) m), ap length (each_turn (store at (v % 256) m) refl))
+      let m' = store ((a + i) % 2 ^ 64) (v % 256) m in
+      omega (arith, length_stores (le (n - (i + 1)) (v / 256)) (a + (i + 1)) m', ap length (each_turn m' refl))

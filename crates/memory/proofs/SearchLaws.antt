@@ -1,22 +1,20 @@
 -- The turns of the search for a rank: a stretch parted in quarters, and how far an address can be from the first entry and the last. Assumes nothing.
-use Rattle.std.proofs.Common.{◌≡◌, ℕ, zero, suc, ◌+◌, ◌-◌, ◌*◌, ◌^◌, ◌<◌, ◌≤◌, min, Bool, true, false, ltb, List, [], ◌∷◌, length, sym, refl, ap, ◌∙◌, subst, le_of_lt, add_assoc, suc-add, zero-add, sub-add_cancel, arith, ltb-false, ltb-true}
+use Rattle.std.proofs.Common.{◌≡◌, ℕ, zero, suc, ◌+◌, ◌-◌, ◌*◌, ◌^◌, ◌<◌, ◌≤◌, min, Bool, true, false, ltb, [], ◌∷◌, length, sym, refl, ap, ◌∙◌, subst, le_of_lt, add_assoc, suc-add, zero-add, sub-add_cancel, arith, ltb-false, ltb-true}
 use native.Mathlib.Nat.{min-eq_left, min-eq_right}
 use mir.Val.{bool_byte}
-use Rattle.layout.specs.Number.{number_at}
-use Rattle.memory.specs.Overlay.{Overlay, rank, Ascending}
-use Rattle.memory.specs.Entries.{entry_size, row_of, IsRow}
-use Rattle.memory.specs.Post.{passed}
-use Rattle.memory.proofs.OverlayLaws.{below, equal, above, compared, key, each_at}
-use Rattle.memory.proofs.RowLaws.{blank, length_row, row_key, search_up, search_down}
+use Rattle.memory.specs.Overlay.{Overlay, Cell, rank, Ascending}
+use Rattle.memory.specs.Post.{IsOverlay, Parts, Lies, address_in, passed}
+use Rattle.memory.proofs.OverlayLaws.{below, equal, above, compared, key, each_at, rank_below, rank_above}
+use Rattle.memory.proofs.RowLaws.{blank}
 
 -- ---- an entry comes before an address, as a number
 
-pub before_is : (s : List ℕ) (n a i : ℕ) → IsRow s n → i < n → bool_byte (ltb (number_at s (i * entry_size) 8) a) ≡ min 1 (rank a (row_of s n) - i)
-before_is s n a i q h = known (ltb (number_at s (i * entry_size) 8) a) refl
+pub before_is : (m : Overlay Cell) (a i x : ℕ) → Parts m i x → bool_byte (ltb x a) ≡ min 1 (rank a m - i)
+before_is m a i x p = known (ltb x a) refl
   where
-    known : (t : Bool) → ltb (number_at s (i * entry_size) 8) a ≡ t → bool_byte t ≡ min 1 (rank a (row_of s n) - i)
-    known true e = omega (arith, search_up s n a i q h (ltb-true (number_at s (i * entry_size) 8) a e))
-    known false e = omega (arith, search_down s n a i h (ltb-false (number_at s (i * entry_size) 8) a e))
+    known : (t : Bool) → ltb x a ≡ t → bool_byte t ≡ min 1 (rank a m - i)
+    known true e = omega (arith, p.up a (ltb-true x a e))
+    known false e = omega (arith, p.down a (ltb-false x a e))
 
 data Before (x i k : ℕ) : Type 0 where
   no : k ≤ i → x ≡ 0 → Before x i k
@@ -75,64 +73,55 @@ module _ {C : Type 0} (d : C) where
       rw zero-add (omega arith)
   key_grows (p ∷ m) s (suc i) n h = rw suc-add (key_grows m s.1 i n (omega arith))
 
-module _ (s : List ℕ) (n : ℕ) (q : IsRow s n) where
-  apart : (i j : ℕ) → i ≤ j → j < n → number_at s (i * entry_size) 8 + (j - i) ≤ number_at s (j * entry_size) 8
+module _ (m : Overlay Cell) (q : Ascending m) where
+  apart : (i j : ℕ) → i ≤ j → j < length m → address_in m i + (j - i) ≤ address_in m j
   apart i j l h =
       let e : i + (j - i) ≡ j = omega arith in
-      let g : key (row_of s n) i blank + (j - i) ≤ key (row_of s n) j blank = rw e at (key_grows blank (row_of s n) q.ascending i (j - i) (rw length_row (omega arith))) in
-      omega (arith, row_key s n i (omega arith), row_key s n j h)
+      rw e at (key_grows blank m q i (j - i) (rw e h))
 
-  module _ (t a : ℕ) (top : suc t ≡ n) (last : a ≤ number_at s (t * entry_size) 8) where
+  module _ (t a f l : ℕ) (top : suc t ≡ length m) (first : Parts m 0 f) (last : Parts m t l) (most : a ≤ l) where
     -- so an address's rank is no more than its distance from the first
-    pub at_most : (d : ℕ) → d + number_at s (0 * entry_size) 8 ≡ a → rank a (row_of s n) ≤ min d t
+    pub at_most : (d : ℕ) → d + f ≡ a → rank a m ≤ min d t
     at_most d e =
         elim (compared d t) [
-          | below l _ ↦ subst (λ (x : ℕ). rank a (row_of s n) ≤ x) (sym (min-eq_left (omega arith))) (search_down s n a d (omega arith) (omega (arith, apart 0 d (omega arith) (omega arith))))
-          | equal l _ ↦ subst (λ (x : ℕ). rank a (row_of s n) ≤ x) (sym (min-eq_right (omega arith))) (search_down s n a t (omega arith) last)
-          | above l _ ↦ subst (λ (x : ℕ). rank a (row_of s n) ≤ x) (sym (min-eq_right (omega arith))) (search_down s n a t (omega arith) last)
+          | below h _ ↦ subst (λ (x : ℕ). rank a m ≤ x) (sym (min-eq_left (omega arith))) (rank_below a blank m d (omega arith) (omega (arith, first.is, apart 0 d (omega arith) (omega arith))))
+          | equal h _ ↦ subst (λ (x : ℕ). rank a m ≤ x) (sym (min-eq_right (omega arith))) (last.down a most)
+          | above h _ ↦ subst (λ (x : ℕ). rank a m ≤ x) (sym (min-eq_right (omega arith))) (last.down a most)
         ]
 
     -- and no farther from the last one's
-    pub at_least : (d : ℕ) → d + a ≡ number_at s (t * entry_size) 8 → t - min d t ≤ rank a (row_of s n)
+    pub at_least : (d : ℕ) → d + a ≡ l → t - min d t ≤ rank a m
     at_least d e =
         elim (compared d t) [
-          | below l _ ↦ omega (arith, search_up s n a (t - d - 1) q (omega arith) (omega (arith, apart (t - d - 1) t (omega arith) (omega arith))))
-          | equal l _ ↦ omega arith
-          | above l _ ↦ omega arith
+          | below h _ ↦ omega (arith, rank_above a blank m q (t - d - 1) (omega arith) (omega (arith, last.is, apart (t - d - 1) t (omega arith) (omega arith))))
+          | equal h _ ↦ omega arith
+          | above h _ ↦ omega arith
         ]
 
-pub near : (s : List ℕ) (n a f l x y : ℕ) → IsRow s n → (n ≡ 0 → ⊥) → f ≡ number_at s (0 * entry_size) 8 → l ≡ number_at s ((n - 1) * entry_size) 8 → f < a → a ≤ l → x ≡ min (a - f) (n - 1) → y ≡ min (l - a) (n - 1)
-    → (IsRow s n × (x < n)) × ((n - 1 - y ≤ rank a (row_of s n)) × (rank a (row_of s n) ≤ x))
-near s n a f l x y q z ef el h k ex ey =
-    let top : suc (n - 1) ≡ n = positive n z in
-    let last : a ≤ number_at s ((n - 1) * entry_size) 8 = subst (λ (v : ℕ). a ≤ v) el k in (
-      (q, subst (λ (v : ℕ). v < n) (sym ex) (less (a - f) (n - 1) n top)),
-      (
-        subst (λ (v : ℕ). n - 1 - v ≤ rank a (row_of s n)) (sym ey) (at_least s n q (n - 1) a top last (l - a) (sub-add_cancel k ∙ el)),
-        subst (λ (v : ℕ). rank a (row_of s n) ≤ v) (sym ex) (at_most s n q (n - 1) a top last (a - f) (ap (λ (v : ℕ). a - f + v) (sym ef) ∙ sub-add_cancel (le_of_lt h))),
-      ),
-    )
-  where
-    positive : (n : ℕ) → (n ≡ 0 → ⊥) → suc (n - 1) ≡ n
-    positive n z = omega arith
+  -- ---- as many entries as addresses: each address has its own
 
-    less : (d t n : ℕ) → suc t ≡ n → min d t < n
-    less d t n e = omega arith
+  not_before : (a i : ℕ) → i < length m → rank a m ≤ i → a ≤ address_in m i
+  not_before a i h r =
+      elim (compared (address_in m i) a) [ below l _ ↦ absurd (omega (arith, rank_above a blank m q i h l)) | equal l _ ↦ omega arith | above l _ ↦ omega arith ]
 
--- ---- as many entries as addresses: each address has its own
+  is_before : (a i : ℕ) → i < length m → i < rank a m → address_in m i < a
+  is_before a i h r =
+      elim (compared (address_in m i) a) [ below l _ ↦ l | equal l _ ↦ absurd (omega (arith, rank_below a blank m i h (omega arith))) | above l _ ↦ absurd (omega (arith, rank_below a blank m i h (omega arith))) ]
 
-not_before : (s : List ℕ) (n a i : ℕ) → IsRow s n → i < n → rank a (row_of s n) ≤ i → a ≤ number_at s (i * entry_size) 8
-not_before s n a i q h r =
-    elim (compared (number_at s (i * entry_size) 8) a) [ below l _ ↦ absurd (omega (arith, search_up s n a i q h l)) | equal l _ ↦ omega arith | above l _ ↦ omega arith ]
+  pub each_there : (a b i j : ℕ) → i ≡ rank a m → j ≡ rank (a + b) m → j ≤ length m → j - i ≡ b → (k : ℕ) → k < b → address_in m (i + k) ≡ a + k
+  each_there a b i j ei ej h e k l =
+      let x : a ≤ address_in m i = not_before a i (omega arith) (omega arith) in
+      let y : address_in m (j - 1) < a + b = is_before (a + b) (j - 1) (omega arith) (omega arith) in
+      let z : address_in m i + (i + k - i) ≤ address_in m (i + k) = apart i (i + k) (omega arith) (omega arith) in
+      let w : address_in m (i + k) + (j - 1 - (i + k)) ≤ address_in m (j - 1) = apart (i + k) (j - 1) (omega arith) (omega arith) in
+      omega arith
 
-is_before : (s : List ℕ) (n a i : ℕ) → i < n → i < rank a (row_of s n) → number_at s (i * entry_size) 8 < a
-is_before s n a i h r =
-    elim (compared (number_at s (i * entry_size) 8) a) [ below l _ ↦ l | equal l _ ↦ absurd (omega (arith, search_down s n a i h (omega arith))) | above l _ ↦ absurd (omega (arith, search_down s n a i h (omega arith))) ]
-
-pub each_there : (s : List ℕ) (n a b i j : ℕ) → IsRow s n → i ≡ rank a (row_of s n) → j ≡ rank (a + b) (row_of s n) → j ≤ n → j - i ≡ b → (k : ℕ) → k < b → number_at s ((i + k) * entry_size) 8 ≡ a + k
-each_there s n a b i j q ei ej h e k l =
-    let x : a ≤ number_at s (i * entry_size) 8 = not_before s n a i q (omega arith) (omega arith) in
-    let y : number_at s ((j - 1) * entry_size) 8 < a + b = is_before s n (a + b) (j - 1) (omega arith) (omega arith) in
-    let z : number_at s (i * entry_size) 8 + (i + k - i) ≤ number_at s ((i + k) * entry_size) 8 = apart s n q i (i + k) (omega arith) (omega arith) in
-    let w : number_at s ((i + k) * entry_size) 8 + (j - 1 - (i + k)) ≤ number_at s ((j - 1) * entry_size) 8 = apart s n q (i + k) (j - 1) (omega arith) (omega arith) in
-    omega arith
+-- an address between the first and the last, by its distances from them
+pub near : (m : Overlay Cell) → IsOverlay m → (a n f l x y : ℕ) → n ≡ length m → (n ≡ 0 → ⊥) → Parts m 0 f → Parts m (n - 1) l → f < a → a ≤ l → x ≡ min (a - f) (n - 1) → y ≡ min (l - a) (n - 1)
+    → Lies m a (n - 1 - y) x × (x < length m)
+near m q a n f l x y e z first last h k ex ey =
+    let top : suc (n - 1) ≡ length m = omega arith in
+    let most : rank a m ≤ x = rw ex (at_most m q.ascending (n - 1) a f l top first last k (a - f) (sub-add_cancel (le_of_lt h))) in
+    let least : n - 1 - y ≤ rank a m = rw ey (at_least m q.ascending (n - 1) a f l top first last k (l - a) (sub-add_cancel k)) in
+    let fits : x < length m = omega arith in
+    (record { low = least; high = most; within = omega arith; row = q }, fits)

@@ -9,7 +9,7 @@ use Rattle.layout.proofs.StoreLaws.{each_take, each_drop, sets_append}
 use Rattle.memory.specs.Overlay.{run_of}
 use Rattle.memory.specs.Entries.{entry, entry_size, overwritten}
 use Rattle.memory.proofs.RowLaws.{entry_sized}
-use Rattle.memory.proofs.MoveLaws.{slid_none}
+use Rattle.memory.proofs.MoveLaws.{unmoved}
 
 -- ---- entries written
 
@@ -56,7 +56,7 @@ set_byte s i a b all h e l =
     let t : List ℕ = take 8 (drop (i * entry_size) s) in
     let lt : length t ≡ 8 = length-take-le 8 (drop (i * entry_size) s) (rw length-drop (omega arith)) in
     let w : le 8 a ≡ t = ap (le 8) (sym e) ∙ le_num 8 t lt (each_take 8 (drop (i * entry_size) s) (each_drop (i * entry_size) s all)) in
-    put_entry s s (i * entry_size) a b l (slid_none s (i * entry_size) (i * entry_size) 8 (omega arith) refl ∙ ap (sets s (i * entry_size)) (sym w))
+    put_entry s s (i * entry_size) a b l (unmoved s (i * entry_size) 8 (omega arith) ∙ ap (sets s (i * entry_size)) (sym w))
 
 kept_address : (s : List ℕ) (i j b : ℕ) → i < j → number_at (set s (i * entry_size + 8) b) (j * entry_size) 8 ≡ number_at s (j * entry_size) 8
 unfolding number_at

@@ -1,6 +1,5 @@
 -- What a run has written, ascending by address, as an association list: a byte is found and stored by its address. Assumes nothing.
-use Rattle.std.specs.Prelude.{ℕ, zero, suc, ◌%◌, ◌^◌, ◌<◌, List, [], ◌∷◌, drop}
-use Rattle.std.proofs.Math.Option.{Option, none, some}
+use Rattle.std.specs.Prelude.{ℕ, zero, suc, ◌%◌, ◌^◌, ◌<◌, List, [], ◌∷◌, drop, Option, None, Some}
 use Prim.Native.Nat.{Ordering}
 use Prim.Native.Nat.{compare}
 use Rattle.layout.specs.Each.{Each}
@@ -10,8 +9,8 @@ abbrev pub Overlay : Type 0 → Type 0
 Overlay C = List (ℕ × C)
 
 unfoldable pub find : {C : Type 0} → ℕ → Overlay C → Option C
-find a [] = none
-find a (p ∷ m) = elim (compare a p.0) [ Ordering.lt ↦ none | Ordering.eq ↦ some p.1 | Ordering.gt ↦ find a m ]
+find a [] = None
+find a (p ∷ m) = elim (compare a p.0) [ Ordering.lt ↦ None | Ordering.eq ↦ Some p.1 | Ordering.gt ↦ find a m ]
 
 unfoldable pub store : {C : Type 0} → ℕ → C → Overlay C → Overlay C
 store a c [] = (a, c) ∷ []
@@ -45,24 +44,24 @@ abbrev pub byte_of : Cell → ℕ
 byte_of c = c
 
 abbrev pub to_byte : Option Cell → Option ℕ
-to_byte none = none
-to_byte (some c) = some (byte_of c)
+to_byte None = None
+to_byte (Some c) = Some (byte_of c)
 
 -- a byte of the run's own, else the first of the image's
 abbrev pub byte_or : Option ℕ → List ℕ → Option ℕ
-byte_or (some b) image = some b
-byte_or none [] = none
-byte_or none (b ∷ bs) = some b
+byte_or (Some b) image = Some b
+byte_or None [] = None
+byte_or None (b ∷ bs) = Some b
 
 -- the bytes from an address on: the run's own, else the image's, which one `read` answered ("a `read` of none hides later bytes"); none if one is missing
 unfoldable pub gather : Overlay Cell → List ℕ → ℕ → ℕ → Option (List ℕ)
-gather m image a zero = some []
+gather m image a zero = Some []
 gather m image a (suc n) =
     elim (byte_or (to_byte (find (a % 2 ^ 64) m)) image) [
-      | none ↦ none
-      | some b ↦ elim (gather m (drop 1 image) (suc a) n) [ none ↦ none | some bs ↦ some (b ∷ bs) ]
+      | None ↦ None
+      | Some b ↦ elim (gather m (drop 1 image) (suc a) n) [ None ↦ None | Some bs ↦ Some (b ∷ bs) ]
     ]
 
 -- the number of those bytes
 unfoldable pub load : Overlay Cell → List ℕ → ℕ → ℕ → Option ℕ
-load m image a n = elim (gather m image a n) [ none ↦ none | some bs ↦ some (num bs) ]
+load m image a n = elim (gather m image a n) [ None ↦ None | Some bs ↦ Some (num bs) ]

@@ -1,34 +1,32 @@
 -- What the functions on an overlay ensure.
-use Rattle.std.specs.Prelude.{◌≡◌, ℕ, ◌+◌, ◌-◌, ◌*◌, ◌%◌, ◌^◌, ◌<◌, ◌≤◌, min, List, length}
-use Rattle.std.proofs.Math.Option.{Option, none, some}
-use Rattle.memory.specs.declared.Stored.{Stored}
-use Rattle.memory.specs.declared.Stored.TheVariants.{Count, Full}
-use Rattle.memory.specs.declared.Found.{Found}
-use Rattle.memory.specs.declared.Found.TheVariants.{Byte, Nothing}
-use Rattle.memory.specs.declared.Loaded.{Loaded}
-use Rattle.memory.specs.declared.Loaded.TheVariants.{Known, Unknown}
-use Rattle.memory.specs.declared.row.Next.{Next}
-use Rattle.memory.specs.declared.row.Next.TheVariants.{Read, Missing}
-use Rattle.memory.specs.Overlay.{Overlay, Cell, find, rank}
+use Rattle.std.specs.Prelude.{◌≡◌, ℕ, ◌+◌, ◌-◌, ◌*◌, ◌%◌, ◌^◌, ◌<◌, ◌≤◌, min, List, length, get_or, None, Result, Ok, Err}
+use Rattle.memory.specs.declared.Full.{Full}
+use Rattle.memory.specs.Overlay.{Overlay, Cell, Ascending, byte_of, find, rank}
 use Rattle.memory.specs.declared.Move.{Move}
 use Rattle.memory.specs.declared.row.Span.{Span}
 use Rattle.memory.specs.Entries.{Sorted, entries, entry_size, limit, piece}
 
-abbrev pub found_as : Option ℕ → Found
-found_as none = Nothing
-found_as (some b) = Byte b
+-- what each row is: ascending, and short enough for sums of its places
+pub record IsOverlay (m : Overlay Cell) : Type 0 where
+  pub ascending : Ascending m
+  pub short : length m < 2 ^ 61
 
-abbrev pub loaded_as : Option ℕ → Loaded
-loaded_as none = Unknown
-loaded_as (some v) = Known v
+-- the address and the byte of entry i
+abbrev pub address_in : Overlay Cell → ℕ → ℕ
+address_in m i = (get_or m i (0, 0)).0
 
-abbrev pub next_as : Option ℕ → ℕ → Next
-next_as none i = Missing
-next_as (some b) i = Read b i
+abbrev pub byte_in : Overlay Cell → ℕ → ℕ
+byte_in m i = byte_of (get_or m i (0, 0)).1
+
+-- x is the address of entry i, which comes before the addresses past x and before no others
+pub record Parts (m : Overlay Cell) (i x : ℕ) : Type 0 where
+  pub is : x ≡ address_in m i
+  pub up : (a : ℕ) → x < a → i < rank a m
+  pub down : (a : ℕ) → a ≤ x → rank a m ≤ i
 
 -- none of n addresses from one on has an entry
 abbrev pub Untouched : Overlay Cell → ℕ → ℕ → Type 0
-Untouched m a n = (k : ℕ) → k < n → find ((a + k) % 2 ^ 64) m ≡ none
+Untouched m a n = (k : ℕ) → k < n → find ((a + k) % 2 ^ 64) m ≡ None
 
 -- the first n entries of a part are the overlay m
 pub record Holds (m : Overlay Cell) (s : List ℕ) (n : ℕ) : Type 0 where
@@ -36,14 +34,21 @@ pub record Holds (m : Overlay Cell) (s : List ℕ) (n : ℕ) : Type 0 where
   pub same : entries s n ≡ m
 
 -- the part s becomes s', which holds m, or m has too many entries and nothing is changed
-abbrev pub Stores : Overlay Cell → List ℕ → List ℕ → Stored → Type 0
-Stores m s s' (Count n) = Holds m s' n
-Stores m s s' Full = (limit < length m) × (s' ≡ s)
+abbrev pub Stores : Overlay Cell → List ℕ → List ℕ → Result ℕ Full → Type 0
+Stores m s s' (Ok n) = Holds m s' n
+Stores m s s' (Err e) = (limit < length m) × (s' ≡ s)
 
 -- the same of a store that may have begun before there is no room
-abbrev pub StoresAll : Overlay Cell → List ℕ → Stored → Type 0
-StoresAll m s' (Count n) = Holds m s' n
-StoresAll m s' Full = limit < length m
+abbrev pub StoresAll : Overlay Cell → List ℕ → Result ℕ Full → Type 0
+StoresAll m s' (Ok n) = Holds m s' n
+StoresAll m s' (Err e) = limit < length m
+
+-- so many entries at least, and so many at most, come before an address
+pub record Lies (m : Overlay Cell) (a least most : ℕ) : Type 0 where
+  pub low : least ≤ rank a m
+  pub high : rank a m ≤ most
+  pub within : most ≤ length m
+  pub row : IsOverlay m
 
 -- how many of the three places that part a stretch in quarters come before a rank
 unfoldable pub passed : ℕ → ℕ → ℕ → ℕ

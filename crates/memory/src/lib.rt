@@ -5,14 +5,14 @@ ghost use Rattle.std.specs.Prelude.{◌≡◌, ◌+◌, ◌-◌, ◌*◌, ◌^�
 ghost use Rattle.std.proofs.lemmas.List.Edits.{sets};
 ghost use Rattle.layout.specs.Number.{le};
 ghost use Rattle.layout.specs.Format.{writes};
-ghost use Rattle.memory.specs.Overlay.{to_byte, find as find_in, store as store_in, stores, run_of, load};
+ghost use Rattle.memory.specs.Overlay.{to_byte, byte_or, find as find_in, store as store_in, stores, run_of, load};
 ghost use Rattle.memory.specs.Entries.{Sorted, entry, entries, entry_size, limit, first as first_in, piece, overwritten, memory_body};
-ghost use Rattle.memory.specs.Post.{found_as, loaded_as, Holds, Stores, StoresAll, SlideBoth, Slid, Spans, Spliced, Unmoved};
+ghost use Rattle.memory.specs.Post.{Holds, Stores, StoresAll, SlideBoth, Slid, Spans, Spliced, Unmoved};
 
 mod row;
 mod search;
 
-use row::Span;
+use row::{Row, Span};
 
 // The bytes of an entry: address u64, byte u8.
 pub const ENTRY: usize = 9;
@@ -29,23 +29,9 @@ pub const PART: usize = FIRST + 2;
 // So many entries are moved sooner than a branch is taken that the machine guesses wrong.
 const FEW: usize = 64;
 
-#[derive(Clone, Copy)]
-pub enum Found {
-    Byte(u8),
-    Nothing,
-}
-
-#[derive(Clone, Copy)]
-pub enum Stored {
-    Count(usize),
-    Full,
-}
-
-#[derive(Clone, Copy)]
-pub enum Loaded {
-    Known(u64),
-    Unknown,
-}
+// The overlay has no room for what is stored.
+#[derive(Clone, Copy, PartialEq, Eq)]
+pub struct Full;
 
 // What the image answered to a `read`: how many bytes, and their little-endian number.
 #[derive(Clone, Copy)]
@@ -55,15 +41,22 @@ pub struct Image {
 }
 
 impl Image {
+    // The first byte. (A `read` of none hides later bytes.)
+    fn first(self) -> Option<u8>
+        ensures { result ≡ byte_or None (le self.count self.number) }
+    {
+        if self.count == 0 {
+            return None;
+        }
+        Some((self.number % 256) as u8)
+    }
+
     // The answer without its first byte.
     fn rest(self) -> Self
         ensures { le result.count result.number ≡ drop 1 (le self.count self.number) }
     {
-        if self.count == 0 {
-            return self;
-        }
         Self {
-            count: self.count - 1,
+            count: self.count.saturating_sub(1),
             number: self.number / 256,
         }
     }
@@ -77,6 +70,17 @@ struct Move {
     count: usize,
 }
 
+// The low bytes of a number, the lowest first, at addresses from one on that do not wrap.
+#[derive(Clone, Copy)]
+struct Run {
+    address: u64,
+    number: u64,
+    bytes: usize,
+    ghost some: { 0 < bytes },
+    ghost few: { bytes ≤ 8 },
+    ghost no_wrap: { address + bytes ≤ 2 ^ 64 },
+}
+
 // The place of the first entry.
 fn first_of(part: &[u8], count: usize) -> usize
     requires { Sorted part.now count }
@@ -85,100 +89,54 @@ fn first_of(part: &[u8], count: usize) -> usize
     if count == 0 {
         return 0;
     }
-    layout::get16(part, FIRST) as usize
+    layout::get::<2>(part, FIRST) as usize
 }
 
 // The byte at an address.
-pub fn find(part: &[u8], count: usize, address: u64) -> Found
+pub fn find(part: &[u8], count: usize, address: u64) -> Option<u8>
     requires { Sorted part.now count }
-    ensures { result ≡ found_as (to_byte (find_in address (entries part.now count))) }
+    ensures { result ≡ to_byte (find_in address (entries part.now count)) }
 {
-    let from = first_of(part, count) * ENTRY;
-    row::find(&part[from..], count, address)
+    Row::new(part, count, first_of(part, count)).find(address)
 }
 
 // The number of the bytes from an address on, the overlay's or else the image's, if each is there; addresses wrap.
-pub fn load_number(part: &[u8], count: usize, image: Image, address: u64, bytes: usize) -> Loaded
+pub fn load_number(
+    part: &[u8],
+    count: usize,
+    image: Image,
+    address: u64,
+    bytes: usize,
+) -> Option<u64>
     requires sorted { Sorted part.now count }
     requires bytes_bound { bytes ≤ 8 }
-    ensures { result ≡ loaded_as (load (entries part.now count) (le image.count image.number) address bytes) }
+    ensures { result ≡ load (entries part.now count) (le image.count image.number) address bytes }
 {
-    let from = first_of(part, count) * ENTRY;
-    row::load(&part[from..], count, image, address, bytes)
+    Row::new(part, count, first_of(part, count)).load(image, address, bytes)
 }
 
-// The first n bytes go up by a distance. (As a function of its own, and down to 0, the loop is compiled to a memmove if the distance is a constant.)
-fn shift_up(part: &mut [u8], n: usize, by: usize)
-    requires { n + by ≤ length part.old }
-    ensures { part.new ≡ sets part.old by (take n part.old) }
+// The first n bytes go up by so many entries. (Of this loop the compiler makes a memmove, since the distance is a constant; of the library's copy_within it
+// makes none, and moves take two thirds longer.)
+fn up<const PLACES: usize>(part: &mut [u8], n: usize)
+    requires { n + PLACES * entry_size ≤ length part.old }
+    ensures { part.new ≡ sets part.old (PLACES * entry_size) (take n part.old) }
 {
-    let mut k = n;
-    while 0 < k {
-        k -= 1;
-        part[k + by] = part[k];
-    }
-}
-
-// n bytes come down from a distance to the front.
-fn shift_down(part: &mut [u8], n: usize, by: usize)
-    requires { n + by ≤ length part.old }
-    ensures { part.new ≡ sets part.old 0 (take n (drop by part.old)) }
-{
-    let mut k = 0;
-    while k < n {
-        part[k] = part[k + by];
-        k += 1;
+    for k in (0..n).rev() {
+        part[k + PLACES * ENTRY] = part[k];
     }
 }
 
-// The same with the distance of one, two, four or eight entries as a constant.
-fn up(part: &mut [u8], n: usize, by: usize)
-    requires { n + by ≤ length part.old }
-    ensures { part.new ≡ sets part.old by (take n part.old) }
+// n bytes come down by so many entries, to the front.
+fn down<const PLACES: usize>(part: &mut [u8], n: usize)
+    requires { n + PLACES * entry_size ≤ length part.old }
+    ensures { part.new ≡ sets part.old 0 (take n (drop (PLACES * entry_size) part.old)) }
 {
-    if by == ENTRY {
-        shift_up(part, n, ENTRY);
-        return;
+    for k in 0..n {
+        part[k] = part[k + PLACES * ENTRY];
     }
-    if by == 2 * ENTRY {
-        shift_up(part, n, 2 * ENTRY);
-        return;
-    }
-    if by == 4 * ENTRY {
-        shift_up(part, n, 4 * ENTRY);
-        return;
-    }
-    if by == 8 * ENTRY {
-        shift_up(part, n, 8 * ENTRY);
-        return;
-    }
-    shift_up(part, n, by);
 }
 
-fn down(part: &mut [u8], n: usize, by: usize)
-    requires { n + by ≤ length part.old }
-    ensures { part.new ≡ sets part.old 0 (take n (drop by part.old)) }
-{
-    if by == ENTRY {
-        shift_down(part, n, ENTRY);
-        return;
-    }
-    if by == 2 * ENTRY {
-        shift_down(part, n, 2 * ENTRY);
-        return;
-    }
-    if by == 4 * ENTRY {
-        shift_down(part, n, 4 * ENTRY);
-        return;
-    }
-    if by == 8 * ENTRY {
-        shift_down(part, n, 8 * ENTRY);
-        return;
-    }
-    shift_down(part, n, by);
-}
-
-// Entries go from one place to another.
+// Entries go from one place to another, mostly by one, two, four or eight places.
 fn slide(part: &mut [u8], m: Move)
     requires { ((m.from + m.count) * entry_size ≤ length part.old) × ((m.to + m.count) * entry_size ≤ length part.old) }
     ensures { part.new ≡ sets part.old (m.to * entry_size) (piece part.old m.from m.count) }
@@ -186,13 +144,19 @@ fn slide(part: &mut [u8], m: Move)
     let from = m.from * ENTRY;
     let to = m.to * ENTRY;
     let n = m.count * ENTRY;
-    if from < to {
-        up(&mut part[from..], n, to - from);
-        return;
-    }
-    if to < from {
-        down(&mut part[to..], n, from - to);
-        return;
+    match m.to.wrapping_sub(m.from) {
+        0 => {}
+        1 => up::<1>(&mut part[from..], n),
+        2 => up::<2>(&mut part[from..], n),
+        4 => up::<4>(&mut part[from..], n),
+        8 => up::<8>(&mut part[from..], n),
+        _ => match m.from.wrapping_sub(m.to) {
+            1 => down::<1>(&mut part[to..], n),
+            2 => down::<2>(&mut part[to..], n),
+            4 => down::<4>(&mut part[to..], n),
+            8 => down::<8>(&mut part[to..], n),
+            _ => part.copy_within(from..from + n, to),
+        },
     }
 }
 
@@ -234,35 +198,32 @@ fn put_entry(part: &mut [u8], i: usize, address: u64, byte: u8)
     ensures { part.new ≡ sets part.old (i * entry_size) (entry.write (address, byte)) }
 {
     let at = i * ENTRY;
-    layout::put64(part, at, address);
+    layout::put::<8>(part, at, address);
     part[at + 8] = byte;
 }
 
-// The entries from a place on of the low bytes of a number, the lowest first, at addresses that do not wrap.
-fn put_run(part: &mut [u8], i: usize, address: u64, number: u64, bytes: usize)
-    requires entries_fit { (i + bytes) * entry_size ≤ length part.old }
-    requires bytes_bound { address + bytes ≤ 2 ^ 64 }
-    ensures { part.new ≡ sets part.old (i * entry_size) (writes entry (run_of address (le bytes number))) }
+// The entries of a run from a place on.
+fn put_run(part: &mut [u8], i: usize, run: Run)
+    requires { (i + run.bytes) * entry_size ≤ length part.old }
+    ensures { part.new ≡ sets part.old (i * entry_size) (writes entry (run_of run.address (le run.bytes run.number))) }
 {
-    let mut left = number;
-    let mut k = 0;
-    while k < bytes {
-        put_entry(part, i + k, address + k as u64, (left % 256) as u8);
+    let mut left = run.number;
+    for k in 0..run.bytes {
+        put_entry(part, i + k, run.address + k as u64, (left % 256) as u8);
         left = left / 256;
-        k += 1;
     }
 }
 
-// The bytes of a store in place of the entries that have their addresses.
-fn splice(part: &mut [u8], count: usize, span: Span, address: u64, number: u64, bytes: usize)
+// The bytes of a run in place of the entries that have its addresses.
+fn splice(part: &mut [u8], count: usize, span: Span, run: Run)
     requires sorted { Sorted part.old count }
-    requires spliced { Spliced (entries part.old count) count span address bytes }
-    ensures { Holds (stores address (le bytes number) (entries part.old count)) part.new (span.at + bytes + (count - span.end)) }
+    requires spliced { Spliced (entries part.old count) count span run.address run.bytes }
+    ensures { Holds (stores run.address (le run.bytes run.number) (entries part.old count)) part.new (span.at + run.bytes + (count - span.end)) }
 {
     let at = span.at;
     let end = span.end;
     let first = first_of(part, count);
-    let to = place(first, count, at, end, at + bytes + (count - end));
+    let to = place(first, count, at, end, at + run.bytes + (count - end));
     let left = Move {
         from: first,
         to: to,
@@ -270,12 +231,12 @@ fn splice(part: &mut [u8], count: usize, span: Span, address: u64, number: u64, 
     };
     let right = Move {
         from: first + end,
-        to: to + at + bytes,
+        to: to + at + run.bytes,
         count: count - end,
     };
     slide_both(part, left, right);
-    put_run(part, to + at, address, number, bytes);
-    layout::put16(part, FIRST, to as u64);
+    put_run(part, to + at, run);
+    layout::put::<2>(part, FIRST, to as u64);
 }
 
 // The low bytes of a number in the entries from a place on, whose addresses stay.
@@ -284,141 +245,104 @@ fn overwrite(part: &mut [u8], i: usize, number: u64, bytes: usize)
     ensures { part.new ≡ overwritten part.old i (le bytes number) }
 {
     let mut left = number;
-    let mut k = 0;
-    while k < bytes {
-        let place = (i + k) * ENTRY + 8;
-        part[place] = (left % 256) as u8;
+    for k in 0..bytes {
+        part[(i + k) * ENTRY + 8] = (left % 256) as u8;
         left = left / 256;
-        k += 1;
     }
 }
 
-// The bytes of a store, whose entries are known, if there is room.
-fn insert(
-    part: &mut [u8],
-    count: usize,
-    span: Span,
-    address: u64,
-    number: u64,
-    bytes: usize,
-) -> Stored
-    requires sorted { Sorted part.old count × Spans (entries part.old count) count span address bytes }
-    requires span_fits { (0 < bytes) × (bytes ≤ 8) × (address + bytes ≤ 2 ^ 64) }
-    ensures { Stores (stores address (le bytes number) (entries part.old count)) part.old part.new result }
+// The bytes of a run, whose entries are known, if there is room.
+fn insert(part: &mut [u8], count: usize, span: Span, run: Run) -> Result<usize, Full>
+    requires { Sorted part.old count × Spans (entries part.old count) count span run.address run.bytes }
+    ensures { Stores (stores run.address (le run.bytes run.number) (entries part.old count)) part.old part.new result }
 {
-    let next = span.at + bytes + (count - span.end);
+    let next = span.at + run.bytes + (count - span.end);
     if LIMIT < next {
-        return Stored::Full;
+        return Err(Full);
     }
-    splice(part, count, span, address, number, bytes);
-    Stored::Count(next)
+    splice(part, count, span, run);
+    Ok(next)
 }
 
-// The bytes of a store that has all entries on one side, where they stay. The first entry is then at a place that is known.
-fn put_beside(
-    part: &mut [u8],
-    count: usize,
-    span: Span,
-    to: usize,
-    address: u64,
-    number: u64,
-    bytes: usize,
-)
-    requires sorted { Sorted part.old count × Spliced (entries part.old count) count span address bytes }
-    requires unmoved { Unmoved count (first_in part.old count) span bytes to }
-    ensures { Holds (stores address (le bytes number) (entries part.old count)) part.new (count + bytes) }
+// The bytes of a run that has all entries on one side, where they stay. The first entry is then at a place that is known.
+fn put_beside(part: &mut [u8], count: usize, span: Span, to: usize, run: Run)
+    requires sorted { Sorted part.old count × Spliced (entries part.old count) count span run.address run.bytes }
+    requires unmoved { Unmoved count (first_in part.old count) span run.bytes to }
+    ensures { Holds (stores run.address (le run.bytes run.number) (entries part.old count)) part.new (count + run.bytes) }
 {
-    put_run(part, to + span.at, address, number, bytes);
-    layout::put16(part, FIRST, to as u64);
+    put_run(part, to + span.at, run);
+    layout::put::<2>(part, FIRST, to as u64);
 }
 
-// The bytes of a store, whose entries are known, if there is room. Where it comes after all entries or before all of them, and places are left on that side,
-// no entry moves.
-fn add(
-    part: &mut [u8],
-    count: usize,
-    first: usize,
-    span: Span,
-    address: u64,
-    number: u64,
-    bytes: usize,
-) -> Stored
-    requires sorted { Sorted part.old count × Spans (entries part.old count) count span address bytes }
-    requires span_fits { (0 < bytes) × (bytes ≤ 8) × (address + bytes ≤ 2 ^ 64) }
+// The bytes of a run, whose entries are known, if there is room. Where it comes after all entries or before all of them, and places are left on that side,
+// no entry moves. (Inlined, as the next, since a call would write the run to memory first.)
+#[inline(always)]
+fn add(part: &mut [u8], count: usize, first: usize, span: Span, run: Run) -> Result<usize, Full>
+    requires sorted { Sorted part.old count × Spans (entries part.old count) count span run.address run.bytes }
     requires first_told { first ≡ first_in part.old count }
-    ensures { Stores (stores address (le bytes number) (entries part.old count)) part.old part.new result }
+    ensures { Stores (stores run.address (le run.bytes run.number) (entries part.old count)) part.old part.new result }
 {
     if span.at == count {
-        if first + count + bytes <= LIMIT {
-            put_beside(part, count, span, first, address, number, bytes);
-            return Stored::Count(count + bytes);
+        if first + count + run.bytes <= LIMIT {
+            put_beside(part, count, span, first, run);
+            return Ok(count + run.bytes);
         }
     }
     if span.end == 0 {
-        if bytes <= first {
-            put_beside(part, count, span, first - bytes, address, number, bytes);
-            return Stored::Count(count + bytes);
+        if run.bytes <= first {
+            put_beside(part, count, span, first - run.bytes, run);
+            return Ok(count + run.bytes);
         }
     }
-    insert(part, count, span, address, number, bytes)
+    insert(part, count, span, run)
+}
+
+// A run stored: one search, then in the places of its addresses if each has one, else beside all entries or after one move of those on one side.
+#[inline(always)]
+fn store_run(part: &mut [u8], count: usize, run: Run) -> Result<usize, Full>
+    requires { Sorted part.old count }
+    ensures { Stores (stores run.address (le run.bytes run.number) (entries part.old count)) part.old part.new result }
+{
+    let first = first_of(part, count);
+    let span = Row::new(part, count, first).span_of(run.address, run.bytes);
+    if span.end - span.at == run.bytes {
+        overwrite(part, first + span.at, run.number, run.bytes);
+        return Ok(count);
+    }
+    add(part, count, first, span, run)
 }
 
 // A byte stored at an address.
-pub fn store(part: &mut [u8], count: usize, address: u64, byte: u8) -> Stored
+pub fn store(part: &mut [u8], count: usize, address: u64, byte: u8) -> Result<usize, Full>
     requires { Sorted part.old count }
     ensures { Stores (store_in address byte (entries part.old count)) part.old part.new result }
 {
-    let first = first_of(part, count);
-    let from = first * ENTRY;
-    let span = row::span_of_byte(&part[from..], count, address);
-    if span.end - span.at == 1 {
-        overwrite(part, first + span.at, byte as u64, 1);
-        return Stored::Count(count);
-    }
-    insert(part, count, span, address, byte as u64, 1)
-}
-
-// The low bytes of a number stored from an address on, where addresses do not wrap: one search, then in their place if each has one, else beside all entries
-// or after one move of those on one side.
-fn store_run(part: &mut [u8], count: usize, address: u64, number: u64, bytes: usize) -> Stored
-    requires sorted { Sorted part.old count }
-    requires span_fits { (0 < bytes) × (bytes ≤ 8) × (address + bytes ≤ 2 ^ 64) }
-    ensures { Stores (stores address (le bytes number) (entries part.old count)) part.old part.new result }
-{
-    let first = first_of(part, count);
-    let from = first * ENTRY;
-    let span = row::span_of(&part[from..], count, address, bytes);
-    if span.end - span.at == bytes {
-        overwrite(part, first + span.at, number, bytes);
-        return Stored::Count(count);
-    }
-    add(part, count, first, span, address, number, bytes)
+    let run = Run {
+        address,
+        number: byte as u64,
+        bytes: 1,
+    };
+    store_run(part, count, run)
 }
 
 // The low bytes of a number stored one by one, as addresses wrap.
-fn store_each(part: &mut [u8], count: usize, address: u64, number: u64, bytes: usize) -> Stored
+fn store_each(
+    part: &mut [u8],
+    count: usize,
+    address: u64,
+    number: u64,
+    bytes: usize,
+) -> Result<usize, Full>
     requires { Sorted part.old count }
     ensures { StoresAll (stores address (le bytes number) (entries part.old count)) part.new result }
 {
     let mut n = count;
-    let mut at = address;
     let mut left = number;
-    let mut i = 0;
-    while i < bytes {
-        let s = store(part, n, at, (left % 256) as u8);
-        match s {
-            Stored::Count(m) => {
-                n = m;
-            }
-            Stored::Full => {
-                return Stored::Full;
-            }
-        }
-        at = std::num::wrapping_add_u64(at, 1);
+    for i in 0..bytes {
+        n = store(part, n, address.wrapping_add(i as u64), (left % 256) as u8)?;
         left = left / 256;
-        i += 1;
     }
-    Stored::Count(n)
+    Ok(n)
 }
 
 // The low bytes of a number stored from an address on, the lowest first; addresses wrap.
@@ -428,14 +352,19 @@ pub fn store_number(
     address: u64,
     number: u64,
     bytes: usize,
-) -> Stored
+) -> Result<usize, Full>
     requires { Sorted part.old count }
     ensures { StoresAll (stores address (le bytes number) (entries part.old count)) part.new result }
 {
     if 0 < bytes {
         if bytes <= 8 {
             if address <= u64::MAX - (bytes as u64 - 1) {
-                return store_run(part, count, address, number, bytes);
+                let run = Run {
+                    address,
+                    number,
+                    bytes,
+                };
+                return store_run(part, count, run);
             }
         }
     }
@@ -449,5 +378,6 @@ pub fn copy_out(part: &[u8], count: usize, out: &mut [u8])
     ensures { out.new ≡ memory_body (entries part.now count) ++ drop (count * entry_size) out.old }
 {
     let from = first_of(part, count) * ENTRY;
-    layout::copy(&part[from..], out, count * ENTRY);
+    let size = count * ENTRY;
+    out[..size].copy_from_slice(&part[from..from + size]);
 }

@@ -1,12 +1,13 @@
-// What the addresses from one on have in a row of entries: one search, then a step for each.
-ghost use Rattle.std.specs.Prelude.{◌≡◌, suc, ◌+◌, ◌*◌, ◌%◌, ◌^◌, ◌<◌, ◌≤◌, true, []};
+// A row: entries one after the other from the front of a slice, ascending by address. What the addresses from one on have in it: one search, then a step for
+// each.
+ghost use Rattle.std.specs.Prelude.{◌≡◌, suc, ◌+◌, ◌*◌, ◌%◌, ◌^◌, ◌<◌, ◌≤◌, true, [], length};
 ghost use Rattle.layout.specs.Number.{le, num};
-ghost use Rattle.memory.specs.Overlay.{to_byte, find as find_in, rank, byte_or, load as load_in};
-ghost use Rattle.memory.specs.Entries.{IsRow, row_of};
-ghost use Rattle.memory.specs.Post.{found_as, loaded_as, next_as, Untouched, Spans};
+ghost use Rattle.memory.specs.Overlay.{to_byte, find as find_in, rank, load as load_in};
+ghost use Rattle.memory.specs.Entries.{Sorted, entries, first as first_in};
+ghost use Rattle.memory.specs.Post.{IsOverlay, Parts, byte_in, Untouched, Spans};
 
-use super::search::{address_at, lower, past};
-use super::{ENTRY, Found, Image, Loaded};
+use super::{ENTRY, Image};
+use std::marker::Model;
 
 // Which entries have the addresses of a store: from one up to another.
 #[derive(Clone, Copy)]
@@ -15,63 +16,138 @@ pub struct Span {
     pub end: usize,
 }
 
-// The byte at an address, and the rank of the next address.
-#[derive(Clone, Copy)]
-pub enum Next {
-    Read(u8, usize),
-    Missing,
+// A clause sees the overlay that the entries are.
+#[derive(Drop)]
+pub struct Row<'a> {
+    bytes: &'a [u8],
+    count: usize,
 }
 
-// The entries of so many bytes from an address on.
-pub fn span_of(row: &[u8], count: usize, address: u64, bytes: usize) -> Span
-    requires row { IsRow row.now count }
-    requires span_fits { (0 < bytes) × (address + bytes ≤ 2 ^ 64) }
-    ensures { Spans (row_of row.now count) count result address bytes }
-{
-    let at = lower(row, count, address);
-    let end = past(row, count, at, address + (bytes as u64 - 1));
-    Span { at: at, end: end }
+impl<'a> Model for Row<'a> {
+    ghost use Rattle.memory.specs.Overlay.{Overlay, Cell};
+    ghost use Rattle.memory.specs.Entries.{IsRow, row_of};
+
+    ghost Value = { Overlay Cell };
+
+    ghost view = { λ r. row_of r.bytes.now r.count };
+
+    ghost invariant = { λ r. IsRow r.bytes.now r.count };
 }
 
-// The entry of one byte.
-pub fn span_of_byte(row: &[u8], count: usize, address: u64) -> Span
-    requires { IsRow row.now count }
-    ensures { Spans (row_of row.now count) count result address 1 }
-{
-    let at = lower(row, count, address);
-    if at < count {
-        if address_at(row, at) == address {
-            return Span {
-                at: at,
-                end: at + 1,
-            };
+impl<'a> Row<'a> {
+    // The entries of a part, the first of which is at a place that is known.
+    pub fn new(part: &'a [u8], count: usize, first: usize) -> Row<'a>
+        requires sorted { Sorted part.now count }
+        requires first_told { first ≡ first_in part.now count }
+        ensures { result ≡ entries part.now count }
+    {
+        Row {
+            bytes: &part[first * ENTRY..],
+            count,
         }
     }
-    Span { at: at, end: at }
-}
 
-// The byte at an address whose rank is known.
-fn find_at(row: &[u8], count: usize, address: u64, at: usize) -> Found
-    requires row { IsRow row.now count }
-    requires at_rank { at ≡ rank address (row_of row.now count) }
-    ensures { result ≡ found_as (to_byte (find_in address (row_of row.now count))) }
-{
-    if at < count {
-        if address_at(row, at) == address {
-            let place = at * ENTRY + 8;
-            let byte = row[place];
-            return Found::Byte(byte);
-        }
+    pub fn len(&self) -> usize
+        ensures len { result ≡ length self.now }
+        ensures row { IsOverlay self.now }
+    {
+        self.count
     }
-    Found::Nothing
-}
 
-pub fn find(row: &[u8], count: usize, address: u64) -> Found
-    requires { IsRow row.now count }
-    ensures { result ≡ found_as (to_byte (find_in address (row_of row.now count))) }
-{
-    let at = lower(row, count, address);
-    find_at(row, count, address, at)
+    // The address of entry i.
+    pub fn address(&self, i: usize) -> u64
+        requires { i < length self.now }
+        ensures { Parts self.now i result }
+    {
+        layout::get::<8>(self.bytes, i * ENTRY)
+    }
+
+    // The byte of entry i.
+    fn byte(&self, i: usize) -> u8
+        requires { i < length self.now }
+        ensures { result ≡ byte_in self.now i }
+    {
+        let bytes = self.bytes;
+        bytes[i * ENTRY + 8]
+    }
+
+    // The entries of so many bytes from an address on.
+    pub fn span_of(&self, address: u64, bytes: usize) -> Span
+        requires { (0 < bytes) × (address + bytes ≤ 2 ^ 64) }
+        ensures { Spans self.now (length self.now) result address bytes }
+    {
+        let at = self.lower(address);
+        let end = self.past(at, address + (bytes as u64 - 1));
+        Span { at, end }
+    }
+
+    // The byte at an address whose rank is known.
+    fn find_at(&self, address: u64, at: usize) -> Option<u8>
+        requires { at ≡ rank address self.now }
+        ensures byte { result ≡ to_byte (find_in address self.now) }
+        ensures row { IsOverlay self.now }
+    {
+        if at < self.len() {
+            if self.address(at) == address {
+                return Some(self.byte(at));
+            }
+        }
+        None
+    }
+
+    pub fn find(&self, address: u64) -> Option<u8>
+        ensures { result ≡ to_byte (find_in address self.now) }
+    {
+        self.find_at(address, self.lower(address))
+    }
+
+    // Whether none of so many addresses from one on, whose rank is known, has an entry. The last addresses, which might wrap, are left to the loop.
+    fn untouched(&self, address: u64, at: usize, bytes: usize) -> bool
+        requires bytes_bound { bytes ≤ 8 }
+        requires at_rank { at ≡ rank address self.now }
+        ensures { result ≡ true → Untouched self.now address bytes }
+    {
+        if u64::MAX - 8 < address {
+            return false;
+        }
+        if at < self.len() {
+            return address + bytes as u64 <= self.address(at);
+        }
+        true
+    }
+
+    // The number of the bytes from an address on, whose rank is known, one by one.
+    fn load_each(&self, image: Image, address: u64, at: usize, bytes: usize) -> Option<u64>
+        requires bytes_bound { bytes ≤ 8 }
+        requires at_rank { at ≡ rank address self.now }
+        ensures { result ≡ load_in self.now (le image.count image.number) address bytes }
+    {
+        let mut place = at;
+        let mut here = address;
+        let mut left = image;
+        let mut number = 0;
+        for i in 0..bytes {
+            let own = self.find_at(here, place);
+            let byte = own.or(left.first())?;
+            number = joined(number, i, byte);
+            place = after(here, place + own.is_some() as usize);
+            here = here.wrapping_add(1);
+            left = left.rest();
+        }
+        Some(number)
+    }
+
+    // The number of the bytes from an address on. Most loads are of bytes that the run has not written.
+    pub fn load(&self, image: Image, address: u64, bytes: usize) -> Option<u64>
+        requires { bytes ≤ 8 }
+        ensures { result ≡ load_in self.now (le image.count image.number) address bytes }
+    {
+        let at = self.lower(address);
+        if self.untouched(address, at, bytes) {
+            return of_image(image, bytes);
+        }
+        self.load_each(image, address, at, bytes)
+    }
 }
 
 // The rank of the address after one, if the number past it has that rank: no entry comes before address 0.
@@ -81,46 +157,12 @@ fn after(address: u64, at: usize) -> usize
     if address == u64::MAX { 0 } else { at }
 }
 
-// The byte at an address whose rank is known, the overlay's or else the image's first, and the rank of the next address.
-fn next_byte(row: &[u8], count: usize, image: Image, address: u64, at: usize) -> Next
-    requires row { IsRow row.now count }
-    requires at_rank { at ≡ rank address (row_of row.now count) }
-    ensures { result ≡ next_as (byte_or (to_byte (find_in address (row_of row.now count))) (le image.count image.number)) (rank ((address + 1) % 2 ^ 64) (row_of row.now count)) }
-{
-    let f = find_at(row, count, address, at);
-    match f {
-        Found::Byte(b) => Next::Read(b, after(address, at + 1)),
-        Found::Nothing => {
-            let none = image.count == 0;
-            if none {
-                return Next::Missing;
-            }
-            Next::Read((image.number % 256) as u8, after(address, at))
-        }
-    }
-}
-
 // A number of i bytes with one more byte above them.
 fn joined(number: u64, i: usize, byte: u8) -> u64
     requires { (i < 8) × (number < 256 ^ i) }
     ensures { (result ≡ number + 256 ^ i * byte) × (result < 256 ^ suc i) }
 {
     number + ((byte as u64) << (8 * i))
-}
-
-// Whether none of so many addresses from one on, whose rank is known, has an entry. The last addresses, which might wrap, are left to the loop.
-fn untouched(row: &[u8], count: usize, address: u64, at: usize, bytes: usize) -> bool
-    requires row { IsRow row.now count × (bytes ≤ 8) }
-    requires at_rank { at ≡ rank address (row_of row.now count) }
-    ensures { result ≡ true → Untouched (row_of row.now count) address bytes }
-{
-    if u64::MAX - 8 < address {
-        return false;
-    }
-    if at < count {
-        return address + bytes as u64 <= address_at(row, at);
-    }
-    true
 }
 
 // The low bytes of a number, so many.
@@ -136,61 +178,12 @@ fn low_bytes(number: u64, bytes: usize) -> u64
 }
 
 // The image's own bytes: a load where the overlay has none.
-fn of_image(image: Image, bytes: usize) -> Loaded
+fn of_image(image: Image, bytes: usize) -> Option<u64>
     requires { bytes ≤ 8 }
-    ensures { result ≡ loaded_as (load_in [] (le image.count image.number) 0 bytes) }
+    ensures { result ≡ load_in [] (le image.count image.number) 0 bytes }
 {
     if image.count < bytes {
-        return Loaded::Unknown;
+        return None;
     }
-    Loaded::Known(low_bytes(image.number, bytes))
-}
-
-// The number of the bytes from an address on, whose rank is known, one by one.
-fn load_each(
-    row: &[u8],
-    count: usize,
-    image: Image,
-    address: u64,
-    at: usize,
-    bytes: usize,
-) -> Loaded
-    requires row { IsRow row.now count × (bytes ≤ 8) }
-    requires at_rank { at ≡ rank address (row_of row.now count) }
-    ensures { result ≡ loaded_as (load_in (row_of row.now count) (le image.count image.number) address bytes) }
-{
-    let mut place = at;
-    let mut here = address;
-    let mut left = image;
-    let mut number = 0;
-    let mut i = 0;
-    while i < bytes {
-        let n = next_byte(row, count, left, here, place);
-        match n {
-            Next::Read(b, next) => {
-                number = joined(number, i, b);
-                place = next;
-            }
-            Next::Missing => {
-                return Loaded::Unknown;
-            }
-        }
-        here = std::num::wrapping_add_u64(here, 1);
-        left = left.rest();
-        i += 1;
-    }
-    Loaded::Known(number)
-}
-
-// The number of the bytes from an address on. Most loads are of bytes that the run has not written.
-pub fn load(row: &[u8], count: usize, image: Image, address: u64, bytes: usize) -> Loaded
-    requires row { IsRow row.now count }
-    requires bytes_bound { bytes ≤ 8 }
-    ensures { result ≡ loaded_as (load_in (row_of row.now count) (le image.count image.number) address bytes) }
-{
-    let at = lower(row, count, address);
-    if untouched(row, count, address, at, bytes) {
-        return of_image(image, bytes);
-    }
-    load_each(row, count, image, address, at, bytes)
+    Some(low_bytes(image.number, bytes))
 }

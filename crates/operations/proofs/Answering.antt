@@ -1,13 +1,13 @@
 -- What the steps that give a value, or tell what was done, come to. Assumes nothing.
 use Rattle.std.proofs.Common.{◌≡◌, ℕ, zero, suc, ◌*◌, ◌<◌, Bool, true, false, not, ◌&&◌, ◌||◌, eqb, List, sym, refl, ap, ◌∙◌, subst, ap₂, arith, ne_eqb}
-use mathlib.Core.Option.{none, some}
+use Rattle.std.specs.Prelude.{Option, None, Some, Result, Ok, Err}
 use mir.Val.{bool_byte}
 use borrow.Author.Tests.{not-true, not-false}
 use Rattle.layout.specs.Format.{bool_of}
 use Rattle.value.specs.declared.Ty.{Ty}
 use Rattle.value.specs.declared.Val.{Val}
-use Rattle.value.specs.declared.Answer.{Answer}
-use Rattle.value.specs.declared.Answer.TheVariants.{Value, DivisionByZero}
+use Rattle.value.specs.declared.ArithmeticError.{ArithmeticError}
+use Rattle.value.specs.declared.ArithmeticError.TheVariants.{DivisionByZero}
 use Rattle.value.specs.declared.BinaryOp.{BinaryOp}
 use Rattle.value.specs.Value.{type, type_of_val, known_val, unknown_val, cast_to}
 use Rattle.value.specs.Operators.{binary_of, operator_of}
@@ -22,12 +22,17 @@ use Rattle.workspace.specs.Post.{SetsWord, SetsValue}
 use Rattle.hosting.specs.declared.Counts.{Counts}
 use Rattle.hosting.specs.declared.How.{How}
 use Rattle.hosting.specs.declared.Short.{Short}
-use Rattle.hosting.specs.declared.Outcome.TheVariants.{Is, Ends}
+use Rattle.hosting.specs.declared.Short.TheVariants.{Full, Why}
 use Rattle.hosting.specs.declared.Note.TheVariants.{Nothing, Fields, Written, Unknown}
-use Rattle.hosting.specs.declared.Done.TheVariants.{Does, Fails}
-use Rattle.hosting.specs.declared.Done.{Done}
-use Rattle.hosting.specs.Ending.{ended, end_of, done_of, note_of, answer_end}
-use Rattle.operations.specs.Registers.{counts_in, short_in, result_in, told_in, did_write, did_by, end_in, told_end}
+use Rattle.hosting.specs.declared.Did as code
+use Rattle.operations.specs.declared.results.Told.{Told}
+use Rattle.operations.specs.declared.results.Told.TheVariants as told
+use Rattle.stream.specs.declared.Reason.{Reason}
+use Rattle.stream.specs.declared.Reason.TheVariants.{ByZero}
+use Rattle.stream.specs.Bodies.{reason_number, reason_at}
+use Rattle.stream.proofs.BodyLaws.{numbered_back}
+use Rattle.hosting.specs.Ending.{ended, end_of, did_of, done_of, note_of, answer_end}
+use Rattle.operations.specs.Registers.{counts_in, short_at, short_in, result_in, told_at, kind_in, told_in, did_write, did_by, end_in, told_end}
 use Rattle.operations.specs.Steps.{Gives, GivesShort, Tells, Answers, Enters, EntersCounts, EntersHow, noted_end}
 use Rattle.operations.specs.Steps as steps
 use Rattle.operations.proofs.Registers.{counts_by_lem, how_by, short_by, told_by, counts_kept, result_value, aside_aside, beside_beside, beside_word, beside_value}
@@ -49,15 +54,18 @@ gives_value {w} {w' = w'} h = record {
       (h.words 11 (omega arith)) (h.words 12 (omega arith)) (h.words 13 (omega arith)) (h.values 1 (omega arith) (λ q. absurd (omega (arith, q))));
 }
 
-pub gives_short : {w : List ℕ} {reason number : ℕ} {w₁ w₂ : List ℕ} → SetsWord w 9 reason w₁ → SetsWord w₁ 10 number w₂ → GivesShort w (record { reason = reason; number = number }) false w₂
-gives_short {reason = reason} {number = number} {w₂ = w₂} p q = record {
+pub gives_short : {w : List ℕ} {s : Short} {z : ℕ × ℕ} {w₁ w₂ : List ℕ} → short_at (reason_at z.0) z.1 ≡ s → SetsWord w 9 z.0 w₁ → SetsWord w₁ 10 z.1 w₂ → GivesShort w s false w₂
+gives_short {z = z} {w₂ = w₂} e p q = record {
   beside = beside_beside (beside_word (omega arith) p) (beside_word (omega arith) q);
   no = refl;
-  why = short_by w₂ (record { reason = reason; number = number }) (on q 9 (omega arith) (λ e. absurd (omega (arith, e))) p.here) q.here;
+  why = short_by w₂ z.0 z.1 (on q 9 (omega arith) (λ e. absurd (omega (arith, e))) p.here) q.here ∙ e;
 }
 
+pub coded_why : {s : Short} {r : Reason} {n k : ℕ} → s ≡ Why r n → k ≡ reason_number r → short_at (reason_at k) n ≡ s
+coded_why {r = r} {n} e q = ap (λ (o : Option Reason). short_at o n) (ap reason_at q ∙ numbered_back r) ∙ sym e
+
 module _ {w : List ℕ} {x : ℕ} {w₁ w₂ w₃ : List ℕ} where
-  tells_by : {t : ℕ} {v : Val} → SetsWord w 11 t w₁ → SetsWord w₁ 12 x w₂ → SetsValue w₂ 1 v w₃ → Tells w (did_by t x (word_at (registers_part w) 13) v) true w₃
+  tells_by : {t : ℕ} {v : Val} → SetsWord w 11 t w₁ → SetsWord w₁ 12 x w₂ → SetsValue w₂ 1 v w₃ → Tells w (did_by (told_at t) x (word_at (registers_part w) 13) v) true w₃
   tells_by {t} {v} p q r = record {
     beside = beside_beside (beside_beside (beside_word (omega arith) p) (beside_word (omega arith) q)) (beside_value r);
     yes = refl;
@@ -68,21 +76,25 @@ module _ {w : List ℕ} {x : ℕ} {w₁ w₂ w₃ : List ℕ} where
         r.here;
   }
 
-  pub tells_wrote : {v : Val} → SetsWord w 11 0 w₁ → SetsWord w₁ 12 x w₂ → SetsValue w₂ 1 v w₃ → Tells w (did_write x v) true w₃
-  tells_wrote p q r = tells_by p q r
+  tells_as : {k : Told} {t : ℕ} {v : Val} → told_at t ≡ k → SetsWord w 11 t w₁ → SetsWord w₁ 12 x w₂ → SetsValue w₂ 1 v w₃ → Tells w (did_by k x (word_at (registers_part w) 13) v) true w₃
+  tells_as {v = v} e p q r = subst (λ (k : Told). Tells w (did_by k x (word_at (registers_part w) 13) v) true w₃) e (tells_by p q r)
 
-  pub tells_written : {v : Val} → SetsWord w 11 2 w₁ → SetsWord w₁ 12 x w₂ → SetsValue w₂ 1 v w₃ → Tells w (did (act.value_written x v)) true w₃
-  tells_written p q r = tells_by p q r
+  pub tells_wrote : {t : ℕ} {v : Val} → told_at t ≡ told.Wrote → SetsWord w 11 t w₁ → SetsWord w₁ 12 x w₂ → SetsValue w₂ 1 v w₃ → Tells w (did_write x v) true w₃
+  tells_wrote e p q r = tells_as e p q r
 
-  pub tells_fields : {n : ℕ} → SetsWord w 11 1 w₁ → SetsWord w₁ 12 x w₂ → SetsWord w₂ 13 n w₃ → Tells w (did (act.fields_written x n)) true w₃
-  tells_fields {n} p q r = record {
+  pub tells_written : {t : ℕ} {v : Val} → told_at t ≡ told.Written → SetsWord w 11 t w₁ → SetsWord w₁ 12 x w₂ → SetsValue w₂ 1 v w₃ → Tells w (did (act.value_written x v)) true w₃
+  tells_written e p q r = tells_as e p q r
+
+  pub tells_fields : {t n : ℕ} → told_at t ≡ told.Fields → SetsWord w 11 t w₁ → SetsWord w₁ 12 x w₂ → SetsWord w₂ 13 n w₃ → Tells w (did (act.fields_written x n)) true w₃
+  tells_fields {t} {n} e p q r = record {
     beside = beside_beside (beside_beside (beside_word (omega arith) p) (beside_word (omega arith) q)) (beside_word (omega arith) r);
     yes = refl;
-    told = told_by w₃ 1 x n (value_at (registers_part w₃) 1)
+    told = told_by w₃ t x n (value_at (registers_part w₃) 1)
         (on r 11 (omega arith) (λ e. absurd (omega (arith, e))) (on q 11 (omega arith) (λ e. absurd (omega (arith, e))) p.here))
         (on r 12 (omega arith) (λ e. absurd (omega (arith, e))) q.here)
         r.here
-        refl;
+        refl
+        ∙ ap (λ (k : Told). did_by k x n (value_at (registers_part w₃) 1)) e;
   }
 
 -- ---- what a caller hands over
@@ -124,43 +136,50 @@ pub counts_is : (w : List ℕ) (a : Counts) → a.stored ≡ word_at (registers_
     → a.tally.left ≡ word_at (registers_part w) 3 → a.tally.entered ≡ word_at (registers_part w) 4 → a.tally.steps ≡ word_at (registers_part w) 5 → a ≡ counts_in w
 counts_is w a e₀ e₁ e₂ e₃ e₄ e₅ = sym (counts_by_lem w a (sym e₀) (sym e₁) (sym e₂) (sym e₃) (sym e₄) (sym e₅))
 
-pub short_is : (w : List ℕ) (r n : ℕ) → r ≡ word_at (registers_part w) 9 → n ≡ word_at (registers_part w) 10 → ◌≡◌ {A = Short} (record { reason = r; number = n }) (short_in w)
-short_is w r n er en = sym (short_by w (record { reason = r; number = n }) (sym er) (sym en))
+-- the reason that a word tells
+module _ (w : List ℕ) {k : ℕ} {o : Option Reason} (ek : k ≡ word_at (registers_part w) 9) (eo : o ≡ reason_at k) where
+  short_as : {z : Option Reason} (n : ℕ) → o ≡ z → n ≡ word_at (registers_part w) 10 → short_in w ≡ short_at z n
+  short_as n e en = short_by w k n (sym ek) (sym en) ∙ ap (λ (y : Option Reason). short_at y n) (sym eo ∙ e)
+
+  pub short_why : {r : Reason} {n : ℕ} → o ≡ Some r → n ≡ word_at (registers_part w) 10 → Why r n ≡ short_in w
+  short_why {n = n} e en = sym (short_as n e en)
+
+  pub short_full : o ≡ None → Full ≡ short_in w
+  short_full e = sym (short_as (word_at (registers_part w) 10) e refl)
 
 module _ (w : List ℕ) {ok : Bool} where
-  pub outcome_value : {v : Val} → ok ≡ true → v ≡ value_at (registers_part w) 0 → end_of (Is v) ≡ end_in ok w
+  pub outcome_value : {v : Val} → ok ≡ true → v ≡ value_at (registers_part w) 0 → end_of (Ok v) ≡ end_in ok w
   outcome_value y e = sym (by_true (short_in w) y (sym (e ∙ result_value w)))
 
-  pub outcome_short : {s : Short} → ok ≡ false → s ≡ short_in w → end_of (Ends s) ≡ end_in ok w
-  outcome_short n e = sym (by_false (result_in w) n (sym e))
+-- what an Assign told, by its number
+pub told_number : (w : List ℕ) {n k : ℕ} → n ≡ word_at (registers_part w) 11 → n ≡ k → told_at k ≡ kind_in w
+unfolding kind_in
+told_number w e q = ap told_at (sym q ∙ e)
 
-  pub told_did : (q : Done) → ok ≡ true → done_of q ≡ ended (told_in w) → done_of q ≡ told_end ok w
-  told_did q y d = d ∙ sym (by_true (short_in w) y refl)
+other_told : (n : ℕ) → (n ≡ 0 → ⊥) → (n ≡ 1 → ⊥) → told.Written ≡ told_at n
+other_told zero z o = absurd (z refl)
+other_told (suc zero) z o = absurd (o refl)
+other_told (suc (suc n)) z o = refl
 
-  pub told_short : {s : Short} → ok ≡ false → s ≡ short_in w → done_of (Fails s) ≡ told_end ok w
-  told_short n e = sym (by_false (told_in w) n (sym e))
+pub told_other : (w : List ℕ) (n : ℕ) → n ≡ word_at (registers_part w) 11 → (n ≡ 0 → ⊥) → (n ≡ 1 → ⊥) → told.Written ≡ kind_in w
+unfolding kind_in
+told_other w n e z o = other_told n z o ∙ ap told_at e
 
 -- what an Assign told, by its words
-did_other : (t x n : ℕ) (v : Val) → (t ≡ 0 → ⊥) → (t ≡ 1 → ⊥) → did_by t x n v ≡ did (act.value_written x v)
-did_other zero x n v z o = absurd (z refl)
-did_other (suc zero) x n v z o = absurd (o refl)
-did_other (suc (suc t)) x n v z o = refl
+module _ (w : List ℕ) {t : Told} (et : t ≡ kind_in w) where
+  told_as : {k : Told} → t ≡ k → told_in w ≡ did_by k (word_at (registers_part w) 12) (word_at (registers_part w) 13) (value_at (registers_part w) 1)
+  unfolding told_in kind_in
+  told_as e = ap (λ (k : Told). did_by k (word_at (registers_part w) 12) (word_at (registers_part w) 13) (value_at (registers_part w) 1)) (sym et ∙ e)
 
-module _ (w : List ℕ) (t x : ℕ) (v : Val) (et : t ≡ word_at (registers_part w) 11) (ex : x ≡ word_at (registers_part w) 12) (ev : v ≡ value_at (registers_part w) 1) where
-  told_is : (n : ℕ) → n ≡ word_at (registers_part w) 13 → told_in w ≡ did_by t x n v
-  told_is n en = told_by w t x n v (sym et) (sym ex) (sym en) (sym ev)
+  module _ {x : ℕ} {v : Val} (ex : x ≡ word_at (registers_part w) 12) (ev : v ≡ value_at (registers_part w) 1) where
+    pub did_wrote : t ≡ told.Wrote → did_of (record { wrote = Some (x, v); note = Nothing }) ≡ told_in w
+    did_wrote e = ap₂ did_write ex ev ∙ sym (told_as e)
 
-  told_at : (k n : ℕ) → t ≡ k → n ≡ word_at (registers_part w) 13 → told_in w ≡ did_by k x n v
-  told_at k n ek en = told_is n en ∙ ap (λ (j : ℕ). did_by j x n v) ek
+    pub did_value : (d : code.Did) → t ≡ told.Written → did_of d ≡ did (note_of (Written x v)) → did_of d ≡ told_in w
+    did_value d e h = h ∙ ap₂ (λ (y : ℕ) (u : Val). did (act.value_written y u)) ex ev ∙ sym (told_as e)
 
-  pub did_wrote : t ≡ 0 → done_of (Does (record { wrote = true; name = x; value = v; note = Nothing })) ≡ ended (told_in w)
-  did_wrote z = ap (λ (d : Did). ended d) (sym (told_at 0 (word_at (registers_part w) 13) z refl))
-
-  pub did_fields : (n : ℕ) (q : Done) → t ≡ 1 → n ≡ word_at (registers_part w) 13 → done_of q ≡ ended (did (note_of (Fields x n))) → done_of q ≡ ended (told_in w)
-  did_fields n q o en h = h ∙ ap (λ (d : Did). ended d) (sym (told_at 1 n o en))
-
-  pub did_value : (q : Done) → (t ≡ 0 → ⊥) → (t ≡ 1 → ⊥) → done_of q ≡ ended (did (note_of (Written x v))) → done_of q ≡ ended (told_in w)
-  did_value q z o h = h ∙ ap (λ (d : Did). ended d) (sym (told_is (word_at (registers_part w) 13) refl ∙ did_other t x (word_at (registers_part w) 13) v z o))
+    pub did_fields : {n : ℕ} (d : code.Did) → t ≡ told.Fields → n ≡ word_at (registers_part w) 13 → did_of d ≡ did (note_of (Fields x n)) → did_of d ≡ told_in w
+    did_fields d e en h = h ∙ ap₂ (λ (y m : ℕ). did (act.fields_written y m)) ex en ∙ sym (told_as e)
 
 -- ---- the note of a statement that is no Assign
 
@@ -171,36 +190,33 @@ note_if false = act.no_note
 note_is : (k known signed : Bool) (bits number : ℕ) (p : act.Pending)
     → elim k [ true ↦ unknown_note (record { known = known; signed = signed; bits = bits; number = number }) p | false ↦ act.no_note ] ≡ note_if ((k && not known) && not (noted p))
 note_is false known signed bits number p = refl
-note_is true true signed bits number none = refl
-note_is true true signed bits number (some xs) = refl
-note_is true false signed bits number none = refl
-note_is true false signed bits number (some xs) = refl
+note_is true true signed bits number None = refl
+note_is true true signed bits number (Some xs) = refl
+note_is true false signed bits number None = refl
+note_is true false signed bits number (Some xs) = refl
 
 module _ (w : List ℕ) (kind : ℕ) (ok : Bool) where
-  pub noted_short : {s : Short} → not ok ≡ true → s ≡ short_in w → done_of (Fails s) ≡ noted_end kind ok w
-  noted_short n e = sym (by_false (did (steps.noted kind (result_in w) (pending_in (note_part w)))) (not-true ok n) (sym e))
-
-  module _ (q : Done) (v : Val) (h : Bool) (y : not ok ≡ false) (e : v ≡ value_at (registers_part w) 0) (eh : h ≡ noted (pending_in (note_part w))) where
+  module _ (d : code.Did) (v : Val) (h : Bool) (y : ok ≡ true) (e : v ≡ value_at (registers_part w) 0) (eh : h ≡ noted (pending_in (note_part w))) where
     noted_if : (t : Bool) → ((eqb kind 14 || eqb kind 15) && not v.known) && not h ≡ t → steps.noted kind (result_in w) (pending_in (note_part w)) ≡ note_if t
     noted_if t c = ap (λ (u : Val). steps.noted kind u (pending_in (note_part w))) (sym (e ∙ result_value w))
         ∙ note_is (eqb kind 14 || eqb kind 15) v.known v.signed v.bits v.number (pending_in (note_part w))
         ∙ ap (λ (b : Bool). note_if (((eqb kind 14 || eqb kind 15) && not v.known) && not b)) (sym eh) ∙ ap note_if c
 
-    noted_as : (t : Bool) → ((eqb kind 14 || eqb kind 15) && not v.known) && not h ≡ t → done_of q ≡ ended (did (note_if t)) → done_of q ≡ noted_end kind ok w
-    noted_as t c ed = ed ∙ sym (by_true (short_in w) (not-false ok y) (ap (λ (z : act.Note). did z) (noted_if t c)))
+    noted_as : (t : Bool) → ((eqb kind 14 || eqb kind 15) && not v.known) && not h ≡ t → did_of d ≡ did (note_if t) → done_of (Ok d) ≡ noted_end kind ok w
+    noted_as t c ed = ap (λ (z : Did). ended z) ed ∙ sym (by_true (short_in w) y (ap (λ (z : act.Note). did z) (noted_if t c)))
 
-    pub noted_unknown : ((eqb kind 14 || eqb kind 15) && not v.known) && not h ≡ true → done_of q ≡ ended (did (note_of Unknown)) → done_of q ≡ noted_end kind ok w
+    pub noted_unknown : ((eqb kind 14 || eqb kind 15) && not v.known) && not h ≡ true → did_of d ≡ did (note_of Unknown) → done_of (Ok d) ≡ noted_end kind ok w
     noted_unknown c g = noted_as true c g
 
-    pub noted_nothing : ((eqb kind 14 || eqb kind 15) && not v.known) && not h ≡ false → done_of q ≡ ended (did (note_of Nothing)) → done_of q ≡ noted_end kind ok w
+    pub noted_nothing : ((eqb kind 14 || eqb kind 15) && not v.known) && not h ≡ false → did_of d ≡ did (note_of Nothing) → done_of (Ok d) ≡ noted_end kind ok w
     noted_nothing c g = noted_as false c g
 
 -- ---- a value told in another way
 
-none_told : (k x n : ℕ) (v : Val) → (k ≡ 0 → ⊥) → ev.value_of (did_by k x n v).wrote ≡ unknown_val (type 64 true)
-none_told zero x n v z = absurd (z refl)
-none_told (suc zero) x n v z = refl
-none_told (suc (suc k)) x n v z = refl
+none_told : (k : Told) (x n : ℕ) (v : Val) → (k ≡ told.Wrote → ⊥) → ev.value_of (did_by k x n v).wrote ≡ unknown_val (type 64 true)
+none_told told.Wrote x n v z = absurd (z refl)
+none_told told.Fields x n v z = refl
+none_told told.Written x n v z = refl
 
 pub constant_is : (b : List ℕ) (n x k : ℕ) (v : Val) → x ≡ value_of b n → k ≡ width_of b n → v ≡ known_val x (type (k * 8) true) → v ≡ known_val (value_of b n) (type (width_of b n * 8) true)
 constant_is b n x k v ex ek ev = ev ∙ ap₂ (λ (i j : ℕ). known_val i (type (j * 8) true)) ex ek
@@ -241,27 +257,22 @@ module _ (w : List ℕ) (r : Bool) (w' : List ℕ) where
 
   -- ---- the value of an Assign
 
-  module _ (t : ℕ) (et : t ≡ word_at (registers_part w) 11) where
-    pub values_wrote : (v : Val) → v ≡ value_at (registers_part w) 1 → t ≡ 0 → Gives w v r w' → Gives w (ev.value_of (told_in w).wrote) r w'
-    unfolding told_in
-    values_wrote v e z g = gives_as v _ (e ∙ sym same) g
-      where
-        same : ev.value_of (told_in w).wrote ≡ value_at (registers_part w) 1
-        same = ap (λ (k : ℕ). ev.value_of (did_by k (word_at (registers_part w) 12) (word_at (registers_part w) 13) (value_at (registers_part w) 1)).wrote) (sym et ∙ z)
+  module _ {t : Told} (et : t ≡ kind_in w) where
+    pub values_wrote : (v : Val) → v ≡ value_at (registers_part w) 1 → t ≡ told.Wrote → Gives w v r w' → Gives w (ev.value_of (told_in w).wrote) r w'
+    values_wrote v e z g = gives_as v _ (e ∙ sym (ap (λ (d : Did). ev.value_of d.wrote) (told_as w et z))) g
 
-    pub values_none : (t ≡ 0 → ⊥) → Gives w (unknown_val (type 64 true)) r w' → Gives w (ev.value_of (told_in w).wrote) r w'
-    unfolding told_in
-    values_none z g = gives_as _ _ (sym (none_told (word_at (registers_part w) 11) (word_at (registers_part w) 12) (word_at (registers_part w) 13) (value_at (registers_part w) 1) (λ e. z (et ∙ e)))) g
+    pub values_none : (t ≡ told.Wrote → ⊥) → Gives w (unknown_val (type 64 true)) r w' → Gives w (ev.value_of (told_in w).wrote) r w'
+    values_none z g = gives_as _ _ (sym (ap (λ (d : Did). ev.value_of d.wrote) (told_as w et refl) ∙ none_told t (word_at (registers_part w) 12) (word_at (registers_part w) 13) (value_at (registers_part w) 1) z)) g
 
 -- ---- an operator's answer
 
-module _ (w : List ℕ) (q : Bool) (w' : List ℕ) (l r : Val) (p : BinaryOp) (f : ℕ) (b : List ℕ) (n : ℕ) (z : Answer)
+module _ (w : List ℕ) (q : Bool) (w' : List ℕ) (l r : Val) (p : BinaryOp) (f : ℕ) (b : List ℕ) (n : ℕ) (z : Result Val ArithmeticError)
     (ez : z ≡ binary_of p l r) (ep : p ≡ operator_of f) (ef : f ≡ flag_of b n) where
   answer_is : z ≡ binary_of (operator_of (flag_of b n)) l r
   answer_is = ez ∙ ap (λ (o : BinaryOp). binary_of o l r) (ep ∙ ap operator_of ef)
 
-  pub answers_value : (v : Val) → z ≡ Value v → Gives w v q w' → Answers w (binary_of (operator_of (flag_of b n)) l r) q w'
+  pub answers_value : (v : Val) → z ≡ Ok v → Gives w v q w' → Answers w (binary_of (operator_of (flag_of b n)) l r) q w'
   answers_value v e g = record { beside = g.beside; ends = by_true (short_in w') g.yes g.value ∙ ap answer_end (sym e ∙ answer_is) }
 
-  pub answers_zero : z ≡ DivisionByZero → GivesShort w (record { reason = 9; number = 0 }) q w' → Answers w (binary_of (operator_of (flag_of b n)) l r) q w'
+  pub answers_zero : z ≡ Err DivisionByZero → GivesShort w (Why ByZero 0) q w' → Answers w (binary_of (operator_of (flag_of b n)) l r) q w'
   answers_zero e g = record { beside = g.beside; ends = by_false (result_in w') g.no g.why ∙ ap answer_end (sym e ∙ answer_is) }

@@ -1,6 +1,6 @@
 -- What asking the world is, as a run on the code's host: a question answered and written, and loads. Assumes nothing.
 use Rattle.std.proofs.Common.{◌≡◌, ℕ, zero, suc, ◌+◌, ◌-◌, ◌/◌, ◌%◌, ◌^◌, ◌<◌, ◌≤◌, max, Bool, not, eqb, List, ◌∷◌, length, drop, sym, refl, ap, ◌∙◌, subst, ap₂, mod-eq_of_lt, arith}
-use mathlib.Core.Option.{Option, none, some}
+use Rattle.std.specs.Prelude.{Option, None, Some}
 use borrow.Rule.Slice.PartMut.{mid_of, put_mid, same_len_mid}
 use Rattle.layout.specs.Format.{bool_of}
 use Rattle.layout.specs.Number.{le, num}
@@ -9,9 +9,6 @@ use Rattle.value.specs.declared.Val.{Val}
 use Rattle.value.specs.Value.{type, known_val, unknown_val}
 use Rattle.memory.specs.Overlay.{Overlay, Cell, byte_or, find, to_byte}
 use Rattle.memory.specs.Overlay as over
-use Rattle.memory.specs.Post.{loaded_as}
-use Rattle.memory.specs.declared.Loaded.{Loaded}
-use Rattle.memory.specs.declared.Loaded.TheVariants as loaded
 use Rattle.memory.specs.declared.Image.{Image}
 use Rattle.definition.specs.Question.{Asked, Question, Answer, World, Entry, Span, read_at, cut}
 use Rattle.definition.specs.Act.{Act, done, ask, End, gave, ◌>>=◌}
@@ -154,29 +151,29 @@ pub regions_here : (regions w : List ℕ) (count : ℕ) → count ≡ word_at (r
     → RegionsIndexed regions (mid_of (tables_place + regions_place) regions_size w) count
 regions_here regions w count e h = subst (λ (p : List ℕ). RegionsIndexed regions p count) (sym (regions_lent w)) (subst (RegionsIndexed regions (regions_part (tables w))) (sym (e ∙ regions_word w)) h)
 
-module _ (w : List ℕ) (t : Ty) (found : Loaded) (r : Bool) (w' : List ℕ) where
+module _ (w : List ℕ) (t : Ty) (found : Option ℕ) (r : Bool) (w' : List ℕ) where
   found_as_lem : (v : Val) → v ≡ found_val t found → Gives w v r w' → Gives w (found_val t found) r w'
   found_as_lem v e g = subst (λ (u : Val). Gives w u r w') e g
 
-  pub found_known : (n : ℕ) (v : Val) → found ≡ loaded.Known n → v ≡ known_val n (type t.bits t.signed) → Gives w v r w' → Gives w (found_val t found) r w'
+  pub found_known : (n : ℕ) (v : Val) → found ≡ Some n → v ≡ known_val n (type t.bits t.signed) → Gives w v r w' → Gives w (found_val t found) r w'
   found_known n v e ev g = found_as_lem v (ev ∙ ap (found_val t) (sym e)) g
 
-  pub found_unknown : found ≡ loaded.Unknown → Gives w (unknown_val (type t.bits t.signed)) r w' → Gives w (found_val t found) r w'
+  pub found_unknown : found ≡ None → Gives w (unknown_val (type t.bits t.signed)) r w' → Gives w (found_val t found) r w'
   found_unknown e g = found_as_lem _ (ap (found_val t) (sym e)) g
 
 found_byte : (z : Option Cell) (image : List ℕ) → byte_or z image ≡ byte_or (to_byte z) image
-found_byte none image = refl
-found_byte (some c) image = refl
+found_byte None image = refl
+found_byte (Some c) image = refl
 
 abbrev cons_if : ℕ → Option (List ℕ) → Option (List ℕ)
-cons_if b r = elim r [ none ↦ none | some bs ↦ some (b ∷ bs) ]
+cons_if b r = elim r [ None ↦ None | Some bs ↦ Some (b ∷ bs) ]
 
 -- one byte, and then those that the rest comes to
 gather_after : (w : World) (second : Bool) (m : Act (Option (List ℕ))) (rest : Option (List ℕ)) (s : Held) → hosted (code_host w second) m s ≡ (gave rest, s) → (y : Option ℕ)
-    → hosted {A = Option (List ℕ)} (code_host w second) (elim y [ none ↦ done none | some b ↦ m >>= λ r. done (cons_if b r) ]) s ≡ (gave (elim y [ none ↦ none | some b ↦ cons_if b rest ]), s)
+    → hosted {A = Option (List ℕ)} (code_host w second) (elim y [ None ↦ done None | Some b ↦ m >>= λ r. done (cons_if b r) ]) s ≡ (gave (elim y [ None ↦ None | Some b ↦ cons_if b rest ]), s)
 unfolding hosted
-gather_after w second m rest s h none = refl
-gather_after w second m rest s h (some b) =
+gather_after w second m rest s h None = refl
+gather_after w second m rest s h (Some b) =
     hosted_bind (code_host w second) (λ r. done (cons_if b r)) m s
     ∙ ap (λ (p : End (Option (List ℕ)) × Held). go_on_from p.0 p.1 (λ r s'. hosted (code_host w second) (done (cons_if b r)) s')) h
 
@@ -187,7 +184,7 @@ gather_hosted w second zero a image s = refl
 gather_hosted w second (suc n) a image s =
     let rest = over.gather s.view.memory (drop 1 image) (suc a) n in
     gather_after w second (gather n (suc a) (drop 1 image)) rest s (gather_hosted w second n (suc a) (drop 1 image) s) (byte_or (find (a % 2 ^ 64) s.view.memory) image)
-    ∙ ap (λ (y : Option ℕ). (gave (elim y [ none ↦ none | some b ↦ cons_if b rest ]), s)) (found_byte (find (a % 2 ^ 64) s.view.memory) image)
+    ∙ ap (λ (y : Option ℕ). (gave (elim y [ None ↦ None | Some b ↦ cons_if b rest ]), s)) (found_byte (find (a % 2 ^ 64) s.view.memory) image)
 
 gather_goes : {g : How → Given} (n address : ℕ) (image : List ℕ) {w o : List ℕ} → Goes g (λ x. gather n address image) w o (ended (over.gather (view w (counts_in w).stored).memory image address n)) w o
 unfolding held
@@ -197,11 +194,11 @@ gather_goes {g} n address image {w} {o} = record {
   runs = λ h _ p. record { ready = p; came = λ x m. gather_hosted x.world (g h).how.second n address image (held w o (counts_in w)); tables = refl };
 }
 
-loaded_as_lem : (t : Ty) (z : Option (List ℕ)) → loaded t z ≡ found_val t (loaded_as (elim z [ none ↦ none | some bs ↦ some (num bs) ]))
-loaded_as_lem t none = refl
-loaded_as_lem t (some bs) = refl
+loaded_as_lem : (t : Ty) (z : Option (List ℕ)) → loaded t z ≡ found_val t (elim z [ None ↦ None | Some bs ↦ Some (num bs) ])
+loaded_as_lem t None = refl
+loaded_as_lem t (Some bs) = refl
 
-found_is : (m : Overlay Cell) (image : List ℕ) (address n : ℕ) (t : Ty) → loaded t (over.gather m image address n) ≡ found_val t (loaded_as (over.load m image address n))
+found_is : (m : Overlay Cell) (image : List ℕ) (address n : ℕ) (t : Ty) → loaded t (over.gather m image address n) ≡ found_val t (over.load m image address n)
 unfolding over.load
 found_is m image address n t = loaded_as_lem t (over.gather m image address n)
 
@@ -221,9 +218,9 @@ load_is : (address : ℕ) (t : Ty) (n : ℕ) → n ≡ max (t.bits / 8) 1 → lo
 unfolding load ◌>>=◌
 load_is address t n e = rw e
 
-pub load_asks : {regions w o w₁ o' w' : List ℕ} {address bytes stored : ℕ} {t : Ty} (image : Image) {found : Loaded} {r : Bool} → bytes ≡ max (t.bits / 8) 1 → bytes ≤ 8 → address < 2 ^ 64
+pub load_asks : {regions w o w₁ o' w' : List ℕ} {address bytes stored : ℕ} {t : Ty} (image : Image) {found : Option ℕ} {r : Bool} → bytes ≡ max (t.bits / 8) 1 → bytes ≤ 8 → address < 2 ^ 64
     → ReadFrom regions address bytes image → Sends (question_bytes (read_entry address bytes image.count image.number)) w o w₁ o'
-    → stored ≡ word_at (registers_part w) 0 → found ≡ loaded_as (over.load (view w₁ stored).memory (le image.count image.number) address bytes) → Gives w₁ (found_val t found) r w'
+    → stored ≡ word_at (registers_part w) 0 → found ≡ over.load (view w₁ stored).memory (le image.count image.number) address bytes → Gives w₁ (found_val t found) r w'
     → LoadsAt regions address t w o r w' o'
 load_asks {regions} {w} {o} {w₁} {o'} {w'} {address} {bytes} {stored} {t} image {found} {r} eb lb la rd sd es ef e = record { goes = λ nodes symbols. go nodes symbols }
   where

@@ -1,6 +1,6 @@
 -- Runs that go as the registers say, put together; and what is put in the registers, as such a run. Assumes nothing.
 use Rattle.std.proofs.Common.{◌≡◌, ℕ, Bool, true, false, List, sym, refl, ap, ◌∙◌, subst, ap₂}
-use mathlib.Core.Option.{Option, none, some}
+use Rattle.std.specs.Prelude.{Option, None, Some}
 use Rattle.value.specs.declared.Val.{Val}
 use Rattle.definition.specs.Act.{Act, done, fail, End, gave, stopped, Why, pending, Pending, ◌>>=◌}
 use Rattle.definition.specs.Host.{hosted}
@@ -33,8 +33,8 @@ aside_ready {a = a} h p = kept_ready h.tables (h.fit a.stored p.fit) p
 
 came_on : {A : Type 0} (p : End A × Held) (e : Ending A) {s s' : Held} → s' ≡ s → Came p e s → Came p e s'
 came_on p (ended a) q c = c ∙ ap (λ (s : Held). (gave a, s)) (sym q)
-came_on p (short (some y)) q c = c ∙ ap (λ (s : Held). (stopped y, s)) (sym q)
-came_on p (short none) q c = c
+came_on p (short (Some y)) q c = c ∙ ap (λ (s : Held). (stopped y, s)) (sym q)
+came_on p (short None) q c = c
 
 -- after a run, and before it
 pub aside_after : {A : Type 0} {g : Given} {m : Scene → Act A} {w₀ o₀ : List ℕ} {a₀ : Counts} {e : Ending A} {w w' o : List ℕ} {a : Counts} → Aside w w' → Runs g m w₀ o₀ a₀ e w o a → Runs g m w₀ o₀ a₀ e w' o a
@@ -58,7 +58,7 @@ module _ {A : Type 0} {g : How → Given} where
   pub done_goes : (val : Scene → A) {v : A} {w o : List ℕ} → ((h : How) (x : Scene) → Meant (g h) x (tables w) → val x ≡ v) → Goes g (λ x. done (val x)) w o (ended v) w o
   done_goes val e = record { how = refl; units = refl; runs = λ h _ p. running.done_runs val (e h) p }
 
-  pub fail_goes : {y : Why} {w o : List ℕ} → Goes {A = A} g (λ x. fail y) w o (short (some y)) w o
+  pub fail_goes : {y : Why} {w o : List ℕ} → Goes {A = A} g (λ x. fail y) w o (short (Some y)) w o
   fail_goes = record { how = refl; units = refl; runs = λ h _ p. running.fail_runs p }
 
   pub pending_goes : (f : Pending → A) {w o : List ℕ} → Goes g (λ x. pending (λ p. done (f p))) w o (ended (f (pending_in (note_part w)))) w o
@@ -98,8 +98,8 @@ remains {g = g} {w₀ = w₀} {e = e} {w = w} p r = let u = p.runs (how_in w₀)
   where
     both : {B : Type 0} (z : Ending B) → Kept z (Ready (g (how_in w₀)) w (counts_in w)) → Kept z (tables w ≡ tables w₀) → Kept z (Remains g w₀ w)
     both (ended v) i t = record { how = p.how; units = p.units; ready = record { ready = subst (λ (h : How). Ready (g h) w (counts_in w)) (sym p.how) i }; tables = t }
-    both (short (some y)) i t = record { how = p.how; units = p.units; ready = record { ready = subst (λ (h : How). Ready (g h) w (counts_in w)) (sym p.how) i }; tables = t }
-    both (short none) i t = tt
+    both (short (Some y)) i t = record { how = p.how; units = p.units; ready = record { ready = subst (λ (h : How). Ready (g h) w (counts_in w)) (sym p.how) i }; tables = t }
+    both (short None) i t = tt
 
 -- ---- what is put in the registers
 
@@ -127,5 +127,5 @@ module _ {g : How → Given} {w o w' : List ℕ} {r : Bool} where
   pub tells_goes : {d : Did} → Tells w d r w' → Goes g (λ x. done d) w o (told_end r w') w' o
   tells_goes {d} p = beside_after p.beside (told (by_true (short_in w') p.yes p.told) (done_goes (λ _. d) (λ h x m. refl)))
 
-  pub short_goes : {A : Type 0} (a : A) {s : Short} {y : Why} → GivesShort w s r w' → short_of s ≡ some y → Goes {A = A} g (λ x. fail y) w o (end_by r a (short_in w')) w' o
+  pub short_goes : {A : Type 0} (a : A) {s : Short} {y : Why} → GivesShort w s r w' → short_of s ≡ Some y → Goes {A = A} g (λ x. fail y) w o (end_by r a (short_in w')) w' o
   short_goes a {s} p e = beside_after p.beside (told (by_false a p.no p.why ∙ ap (λ (z : Option Why). short z) e) fail_goes)

@@ -1,5 +1,5 @@
 -- What the registers say after one is set, or where they are the same. Assumes nothing.
-use Rattle.std.proofs.Common.{◌≡◌, ℕ, ◌<◌, Bool, true, false, cond, eqb, List, refl, ap, ◌∙◌, arith, eqb-true}
+use Rattle.std.proofs.Common.{◌≡◌, ℕ, ◌<◌, Bool, true, false, cond, eqb, List, refl, ap, ap₂, ◌∙◌, arith, eqb-true}
 use borrow.Author.Tests.{eqb-false}
 use Rattle.layout.specs.Format.{bool_of}
 use Rattle.value.specs.declared.Val.{Val}
@@ -9,9 +9,9 @@ use Rattle.workspace.specs.View.{View, Does}
 use Rattle.workspace.specs.Post.{Aside, SetsWord, SetsValue}
 use Rattle.hosting.specs.declared.Counts.{Counts}
 use Rattle.hosting.specs.declared.How.{How}
-use Rattle.hosting.specs.declared.Short.{Short}
+use Rattle.stream.specs.Bodies.{reason_at}
 use Rattle.hosting.specs.Held.{with_asked, with_recorded, with_stored}
-use Rattle.operations.specs.Registers.{counts_in, units_of, with_units, how_in, short_in, result_in, told_in, did_by}
+use Rattle.operations.specs.Registers.{counts_in, units_of, with_units, how_in, short_at, short_in, result_in, told_at, told_in, did_by}
 use Rattle.operations.specs.Going.{Beside}
 
 -- ---- where the part is the same
@@ -90,11 +90,11 @@ pub how_by : (w : List ℕ) (h : How) → word_at (registers_part w) 6 ≡ h.dep
 unfolding how_in
 how_by w h e₆ e₇ e₈ = rw (e₆, e₇, e₈)
 
-pub short_by : (w : List ℕ) (s : Short) → word_at (registers_part w) 9 ≡ s.reason → word_at (registers_part w) 10 ≡ s.number → short_in w ≡ s
+pub short_by : (w : List ℕ) (r n : ℕ) → word_at (registers_part w) 9 ≡ r → word_at (registers_part w) 10 ≡ n → short_in w ≡ short_at (reason_at r) n
 unfolding short_in
-short_by w s e₉ e₁₀ = rw (e₉, e₁₀)
+short_by w r n e₉ e₁₀ = ap₂ (λ (k m : ℕ). short_at (reason_at k) m) e₉ e₁₀
 
-pub told_by : (w : List ℕ) (t x n : ℕ) (v : Val) → word_at (registers_part w) 11 ≡ t → word_at (registers_part w) 12 ≡ x → word_at (registers_part w) 13 ≡ n → value_at (registers_part w) 1 ≡ v → told_in w ≡ did_by t x n v
+pub told_by : (w : List ℕ) (t x n : ℕ) (v : Val) → word_at (registers_part w) 11 ≡ t → word_at (registers_part w) 12 ≡ x → word_at (registers_part w) 13 ≡ n → value_at (registers_part w) 1 ≡ v → told_in w ≡ did_by (told_at t) x n v
 unfolding told_in
 told_by w t x n v e₁₁ e₁₂ e₁₃ e = rw (e₁₁, e₁₂, e₁₃, e)
 

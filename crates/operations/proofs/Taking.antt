@@ -1,6 +1,6 @@
 -- What a Call does once its arguments have values, from what the code did for it: the world asked, the locals taken. Assumes nothing.
 use Rattle.std.proofs.Common.{◌≡◌, ℕ, zero, suc, ◌+◌, ◌*◌, ◌^◌, ◌<◌, ◌≤◌, Bool, true, false, eqb, List, [], ◌∷◌, ◌++◌, map, length, take, sym, refl, ap, ◌∙◌, subst, ap₂, append_assoc, append-nil, mod-eq_of_lt, arith, length-append, take_all, eq-eqb, ne_eqb}
-use mathlib.Core.Option.{Option, none, some}
+use Rattle.std.specs.Prelude.{Option, None, Some}
 use Rattle.layout.specs.Each.{Each}
 use Rattle.layout.specs.Format.{writes}
 use Rattle.value.specs.declared.Ty.{Ty}
@@ -25,9 +25,6 @@ use Rattle.workspace.specs.Note.{pending_in, with_name, Open}
 use Rattle.workspace.specs.Registers.{word_at}
 use Rattle.workspace.specs.Types.{declared_at}
 use Rattle.workspace.specs.View.{View, view, Fit, Changes, setting, leaving, noting}
-use Rattle.workspace.specs.Post.{declaration_as}
-use Rattle.workspace.specs.declared.types.Declaration.{Declaration}
-use Rattle.workspace.specs.declared.types.Declaration.TheVariants.{As, Nothing}
 use Rattle.hosting.specs.declared.How.{How}
 use Rattle.hosting.specs.declared.Counts.{Counts}
 use Rattle.hosting.specs.Scene.{Given, given, Ready}
@@ -46,7 +43,6 @@ use Rattle.hosting.proofs.Keeping.{kept_ready}
 use Rattle.operations.proofs.Going.{done_goes, goes, acts, told, by_true, beside_after}
 use Rattle.operations.proofs.Registers.{counts_same, units_same, how_same, depth_word}
 use Rattle.operations.proofs.Asking.{sends_asks, asks_goes}
-use Rattle.operations.proofs.Naming.{declared_as, undeclared}
 
 -- ---- the call is asked of the world
 
@@ -64,7 +60,7 @@ call_fits name address vs hn ha l h =
     ap₂ (λ (n m : ℕ). record { name = n; address = m; depth = 1; values = take 255 (map cut_val vs) }) (mod-eq_of_lt (omega arith)) (mod-eq_of_lt (omega arith))
     ∙ ap (λ (us : List Val). record { name = name; address = address; depth = 1; values = us }) (ap (take 255) (cut_vals vs h) ∙ take_all 255 vs (omega arith))
 
-follow_other : (E : Env) (t : Term) (vs : List Val) → is FunctionName t ≡ false → followed E t vs ≡ done none
+follow_other : (E : Env) (t : Term) (vs : List Val) → is FunctionName t ≡ false → followed E t vs ≡ done None
 unfolding followed
 follow_other E t vs e = rw (e, followed)
 
@@ -73,12 +69,12 @@ unfolding followed
 follow_name E t vs e = rw (e, followed)
 
 -- the depth limit
-follow_zero : (d name address : ℕ) (vs : List Val) → d ≡ 0 → follow_at d name address vs ≡ done none
+follow_zero : (d name address : ℕ) (vs : List Val) → d ≡ 0 → follow_at d name address vs ≡ done None
 unfolding follow_at
 follow_zero zero name address vs e = refl
 follow_zero (suc d) name address vs e = absurd (omega (arith, e))
 
-follow_more : (d name address : ℕ) (vs : List Val) → (d ≡ 0 → ⊥) → follow_at d name address vs ≡ ask call_to (record { name = name; address = address; depth = 1; values = vs }) (λ _. done none)
+follow_more : (d name address : ℕ) (vs : List Val) → (d ≡ 0 → ⊥) → follow_at d name address vs ≡ ask call_to (record { name = name; address = address; depth = 1; values = vs }) (λ _. done None)
 unfolding follow_at
 follow_more zero name address vs e = absurd (e refl)
 follow_more (suc d) name address vs e = refl
@@ -88,18 +84,18 @@ module _ {nodes vals : List ℕ} {count n k : ℕ} {w o : List ℕ} (p : k ≡ k
   unfolding look
   follows_none ne = record { goes = λ symbols regions vs h t st. go symbols regions vs t st }
     where
-      go : (symbols regions : List ℕ) (vs : List Val) (t : Tree) → Stands nodes n t → Goes (given nodes symbols regions) (λ x. followed x.env (look x.env t) vs) w o (ended none) w o
-      go symbols regions vs _ (stands {ts = ts} i h) = acts (λ _ x _. follow_other x.env _ vs (ne_eqb _ _ (λ z. ne (p ∙ z)))) (done_goes (λ _. none) (λ _ x m. refl))
+      go : (symbols regions : List ℕ) (vs : List Val) (t : Tree) → Stands nodes n t → Goes (given nodes symbols regions) (λ x. followed x.env (look x.env t) vs) w o (ended None) w o
+      go symbols regions vs _ (stands {ts = ts} i h) = acts (λ _ x _. follow_other x.env _ vs (ne_eqb _ _ (λ z. ne (p ∙ z)))) (done_goes (λ _. None) (λ _ x m. refl))
 
   module _ (k4 : k ≡ 4) where
     -- the environment follows as the depth limit says
     from_follow : {w' o' : List ℕ} → ((symbols regions : List ℕ) (vs : List Val) → ValuesIn vals 0 count vs
-        → Goes (given nodes symbols regions) (λ x. follow_at (how_in w).depth (ref_of nodes n) (value_of nodes n) vs) w o (ended none) w' o') → Follows nodes vals count n w o w' o'
+        → Goes (given nodes symbols regions) (λ x. follow_at (how_in w).depth (ref_of nodes n) (value_of nodes n) vs) w o (ended None) w' o') → Follows nodes vals count n w o w' o'
     unfolding look
     from_follow {w'} {o'} f = record { goes = λ symbols regions vs h t st. go symbols regions vs h t st }
       where
         go : (symbols regions : List ℕ) (vs : List Val) → ValuesIn vals 0 count vs → (t : Tree) → Stands nodes n t
-            → Goes (given nodes symbols regions) (λ x. followed x.env (look x.env t) vs) w o (ended none) w' o'
+            → Goes (given nodes symbols regions) (λ x. followed x.env (look x.env t) vs) w o (ended None) w' o'
         go symbols regions vs v _ (stands {ts = ts} i h) =
             let r = f symbols regions vs v in
             record {
@@ -115,7 +111,7 @@ module _ {nodes vals : List ℕ} {count n k : ℕ} {w o : List ℕ} (p : k ≡ k
     module _ {d : ℕ} (ed : d ≡ word_at (registers_part w) 6) where
       pub follows_limit : d ≡ 0 → Follows nodes vals count n w o w o
       follows_limit z = from_follow (λ symbols regions vs h.
-          acts (λ _ x _. follow_zero (how_in w).depth (ref_of nodes n) (value_of nodes n) vs (sym (ed ∙ depth_word w) ∙ z)) (done_goes (λ _. none) (λ _ x m. refl)))
+          acts (λ _ x _. follow_zero (how_in w).depth (ref_of nodes n) (value_of nodes n) vs (sym (ed ∙ depth_word w) ∙ z)) (done_goes (λ _. None) (λ _ x m. refl)))
 
       pub follows_asked : {name address : ℕ} {w' o' : List ℕ} → (d ≡ 0 → ⊥) → count ≤ 16 → name ≡ ref_of nodes n → name < 65536 → address ≡ value_of nodes n → address < 2 ^ 64
           → Sends (call_bytes name address 1 count (take (14 * count) vals)) w o w' o' → Follows nodes vals count n w o w' o'
@@ -128,7 +124,7 @@ module _ {nodes vals : List ℕ} {count n k : ℕ} {w o : List ℕ} (p : k ≡ k
               swap m = omega arith
 
           go : (symbols regions : List ℕ) (vs : List Val) → ValuesIn vals 0 count vs
-              → Goes (given nodes symbols regions) (λ x. follow_at (how_in w).depth (ref_of nodes n) (value_of nodes n) vs) w o (ended none) w' o'
+              → Goes (given nodes symbols regions) (λ x. follow_at (how_in w).depth (ref_of nodes n) (value_of nodes n) vs) w o (ended None) w' o'
           go symbols regions vs h =
               let q : Calling = record { name = name; address = address; depth = 1; values = vs } in
               let fits : cut call_to q ≡ q = call_fits name address vs ln la (omega (arith, h.many)) h.whole in
@@ -137,15 +133,15 @@ module _ {nodes vals : List ℕ} {count n k : ℕ} {w o : List ℕ} (p : k ≡ k
               let asks : Asks (given nodes symbols regions) call_to q tt w o w' o' =
               sends_asks (call_entry name address 1 vs) (λ _ x m. refl) (ap (λ (z : Calling). (call_to, (z, tt))) (sym fits)) sent in
               acts (λ _ x _. follow_more (how_in w).depth (ref_of nodes n) (value_of nodes n) vs (λ z. nz (ed ∙ depth_word w ∙ z))
-              ∙ ap₂ (λ (i j : ℕ). ask call_to (record { name = i; address = j; depth = 1; values = vs }) (λ _. done none)) (sym en) (sym ea))
-              (asks_goes (λ x z. done none) asks (done_goes (λ _. none) (λ _ x m. refl)))
+              ∙ ap₂ (λ (i j : ℕ). ask call_to (record { name = i; address = j; depth = 1; values = vs }) (λ _. done None)) (sym en) (sym ea))
+              (asks_goes (λ x z. done None) asks (done_goes (λ _. None) (λ _ x m. refl)))
 
 -- ---- one argument
 
 abbrev taken_if : Bool → ℕ → Option Ty → Option (ℕ × Ty)
-taken_if z x d = elim z [ true ↦ elim d [ none ↦ none | some y ↦ some (x, y) ] | false ↦ none ]
+taken_if z x d = elim z [ true ↦ elim d [ None ↦ None | Some y ↦ Some (x, y) ] | false ↦ None ]
 
-taken_other : (E : Env) (t : Term) → is AddressOf t ≡ false → taken_by E t ≡ none
+taken_other : (E : Env) (t : Term) → is AddressOf t ≡ false → taken_by E t ≡ None
 taken_other E t e = rw (e, taken_by)
 
 taken_address : (E : Env) (t : Term) → is AddressOf t ≡ true → taken_by E t ≡ taken_if (is Var (kid 0 (kids t))) (node (kid 0 (kids t))).ref (E.declared (node (kid 0 (kids t))).ref)
@@ -163,11 +159,11 @@ taken_under E {b} {n} k (stands {ts = ts} i h) = taken_address E (look E (tree (
     from : {us : Trees} → Shape b 10 n us → taken_if (is Var (kid 0 (looks E us))) (node (kid 0 (looks E us))).ref (E.declared (node (kid 0 (looks E us))).ref) ≡ taken_if (eqb (kind_of b (n + 1)) 1) (ref_of b (n + 1)) (E.declared (ref_of b (n + 1)))
     from (an_address q e) = of q
 
-no_more : (xs : List ℕ) {p : Option (List ℕ)} → p ≡ some xs → OneName xs p
+no_more : (xs : List ℕ) {p : Option (List ℕ)} → p ≡ Some xs → OneName xs p
 no_more xs e = record { names = xs; noted = e; most = omega arith }
 
 -- nothing is taken
-nothing_taken : {b : List ℕ} {n : ℕ} {w : List ℕ} → ((E : Env) → Declared (tables w) E → (t : Tree) → Stands b n t → taken_by E (look E t) ≡ none) → Takes b n w w
+nothing_taken : {b : List ℕ} {n : ℕ} {w : List ℕ} → ((E : Env) → Declared (tables w) E → (t : Tree) → Stands b n t → taken_by E (look E t) ≡ None) → Takes b n w w
 nothing_taken {w = w} f = record {
   holds = λ E d t h stored. ap (λ (z : Option (ℕ × Ty)). take_view z (view w stored)) (sym (f E d t h));
   tables = refl;
@@ -178,7 +174,7 @@ nothing_taken {w = w} f = record {
   note = λ xs e. no_more xs e;
 }
 
-other_under : (E : Env) {b : List ℕ} {n : ℕ} {t : Tree} → (kind_of b n ≡ 10 → ⊥) → Stands b n t → taken_by E (look E t) ≡ none
+other_under : (E : Env) {b : List ℕ} {n : ℕ} {t : Tree} → (kind_of b n ≡ 10 → ⊥) → Stands b n t → taken_by E (look E t) ≡ None
 unfolding look
 other_under E {b} {n} ne (stands {ts = ts} i h) = taken_other E (look E (tree (node_of b n) ts)) (ne_eqb _ _ ne)
 
@@ -202,7 +198,7 @@ module _ {b : List ℕ} {n k : ℕ} (w : List ℕ) (p : k ≡ kind_of b n) where
     takes_no_name ne = nothing_taken (λ E d t h. taken_under E (same_kind p k10) h
         ∙ ap (λ (z : Bool). taken_if z (ref_of b (n + 1)) (E.declared (ref_of b (n + 1)))) (ne_eqb (kind_of b (n + 1)) 1 (λ z. ne (q ∙ z))))
 
-    module _ (j1 : j ≡ 1) (fine : Fine b n) {name : ℕ} (en : name ≡ ref_of b (n + 1)) {d : Declaration} (ed : d ≡ declaration_as (declared_at (tables w) name)) where
+    module _ (j1 : j ≡ 1) (fine : Fine b n) {name : ℕ} (en : name ≡ ref_of b (n + 1)) {d : Option Ty} (ed : d ≡ declared_at (tables w) name) where
       named : (E : Env) → Declared (tables w) E → {t : Tree} → Stands b n t → taken_by E (look E t) ≡ taken_if true name (declared_at (tables w) name)
       named E decl h =
           taken_under E (same_kind p k10) h
@@ -210,15 +206,15 @@ module _ {b : List ℕ} {n k : ℕ} (w : List ℕ) (p : k ≡ kind_of b n) where
           ∙ ap (taken_if true (ref_of b (n + 1))) (sym (decl (ref_of b (n + 1)) (under_below fine p k10 q j1 refl)))
           ∙ ap (λ (i : ℕ). taken_if true i (declared_at (tables w) i)) (sym en)
 
-      pub takes_undeclared : d ≡ Nothing → Takes b n w w
-      takes_undeclared e = nothing_taken (λ E decl t h. named E decl h ∙ ap (taken_if true name) (sym (undeclared (declared_at (tables w) name) (sym e ∙ ed))))
+      pub takes_undeclared : d ≡ None → Takes b n w w
+      takes_undeclared e = nothing_taken (λ E decl t h. named E decl h ∙ ap (taken_if true name) (sym (sym e ∙ ed)))
 
-      pub takes_local : {t : Ty} {v : Val} {w₁ w₂ : List ℕ} → d ≡ As t → v ≡ unknown_val t → Changes w (setting name v) w₁ → Changes w₁ (noting name) w₂ → Takes b n w w₂
+      pub takes_local : {t : Ty} {v : Val} {w₁ w₂ : List ℕ} → d ≡ Some t → v ≡ unknown_val t → Changes w (setting name v) w₁ → Changes w₁ (noting name) w₂ → Takes b n w w₂
       unfolding view
       takes_local e ev c₁ c₂ = record {
         holds = λ E decl u h stored.
             c₂.holds stored ∙ ap (noting name) (c₁.holds stored ∙ ap (λ (y : Val). setting name y (view w stored)) ev)
-            ∙ ap (λ (z : Option (ℕ × Ty)). take_view z (view w stored)) (sym (named E decl h ∙ ap (taken_if true name) (sym (declared_as (declared_at (tables w) name) (sym e ∙ ed)))));
+            ∙ ap (λ (z : Option (ℕ × Ty)). take_view z (view w stored)) (sym (named E decl h ∙ ap (taken_if true name) (sym (sym e ∙ ed))));
         tables = c₂.tables ∙ c₁.tables;
         fit = λ stored h. c₂.fit stored (c₁.fit stored h);
         size = c₂.size ∙ c₁.size;
@@ -249,7 +245,7 @@ pub record SoFar (b : List ℕ) (first e : ℕ) (w : List ℕ) (i : ℕ) (w' : L
   pub count : ℕ
   pub left : FineArgs b i e count
   pub names : List ℕ
-  pub noted : pending_in (note_part w') ≡ some names
+  pub noted : pending_in (note_part w') ≡ Some names
   pub few : length names ≤ count
   pub undone : (E : Env) → Declared (tables w) E → (ts : Trees) → KidsAt b first e ts → Undone b e i E (λ stored. take_views E (looks E ts) (view w stored)) w'
   pub tables : tables w' ≡ tables w
@@ -258,7 +254,7 @@ pub record SoFar (b : List ℕ) (first e : ℕ) (w : List ℕ) (i : ℕ) (w' : L
   pub registers : registers_part w' ≡ registers_part w
   pub questions : questions_part w' ≡ questions_part w
 
-pub so_far_start : {b : List ℕ} {first e : ℕ} {w₀ w : List ℕ} → FineArgs b first e 0 → Changes w₀ (leaving (some [])) w → SoFar b first e w first w
+pub so_far_start : {b : List ℕ} {first e : ℕ} {w₀ w : List ℕ} → FineArgs b first e 0 → Changes w₀ (leaving (Some [])) w → SoFar b first e w first w
 unfolding view
 so_far_start f c = record {
   count = 0;
@@ -321,7 +317,7 @@ module _ {b : List ℕ} {first e i : ℕ} {w w' : List ℕ} (s : SoFar b first e
           questions = t.questions ∙ s.questions;
         }
 
-  pub so_far_end : {w₀ : List ℕ} → e ≤ i → Changes w₀ (leaving (some [])) w → TakesAll b first e w₀ w'
+  pub so_far_end : {w₀ : List ℕ} → e ≤ i → Changes w₀ (leaving (Some [])) w → TakesAll b first e w₀ w'
   so_far_end l c = record {
     holds = λ E d ts h stored.
         let u = s.undone E (subst (λ (z : List ℕ). Declared z E) (sym c.tables) d) ts h in
@@ -337,11 +333,11 @@ module _ {b : List ℕ} {first e i : ℕ} {w w' : List ℕ} (s : SoFar b first e
 
 abbrev names_in : Env → Terms → List ℕ
 names_in E no_terms = []
-names_in E (more_terms t ts) = elim (taken_by E t) [ none ↦ names_in E ts | some p ↦ p.0 ∷ names_in E ts ]
+names_in E (more_terms t ts) = elim (taken_by E t) [ None ↦ names_in E ts | Some p ↦ p.0 ∷ names_in E ts ]
 
 abbrev variables_after : Env → Terms → Overlay Val → Overlay Val
 variables_after E no_terms m = m
-variables_after E (more_terms t ts) m = elim (taken_by E t) [ none ↦ variables_after E ts m | some p ↦ variables_after E ts (store p.0 (unknown_val p.1) m) ]
+variables_after E (more_terms t ts) m = elim (taken_by E t) [ None ↦ variables_after E ts m | Some p ↦ variables_after E ts (store p.0 (unknown_val p.1) m) ]
 
 abbrev with_taken : Env → Terms → View → View
 with_taken E ts v = record { variables = variables_after E ts v.variables; memory = v.memory; pending = v.pending }
@@ -353,45 +349,45 @@ module _ (W : World) (second : Bool) (E : Env) where
   take_hosted (more_terms t ts) s = go (taken_by E t) (take_hosted ts)
     where
       go : (z : Option (ℕ × Ty)) → ((s' : Held) → hosted (code_host W second) (take_names E ts) s' ≡ (gave (names_in E ts), with_view (with_taken E ts s'.view) s'))
-          → hosted {A = List ℕ} (code_host W second) (elim z [ none ↦ take_names E ts | some p ↦ set p.0 (unknown_val p.1) (take_names E ts >>= λ xs. done (p.0 ∷ xs)) ]) s
+          → hosted {A = List ℕ} (code_host W second) (elim z [ None ↦ take_names E ts | Some p ↦ set p.0 (unknown_val p.1) (take_names E ts >>= λ xs. done (p.0 ∷ xs)) ]) s
           ≡ (
-            gave (elim z [ none ↦ names_in E ts | some p ↦ p.0 ∷ names_in E ts ]),
-            with_view (record { variables = elim z [ none ↦ variables_after E ts s.view.variables | some p ↦ variables_after E ts (store p.0 (unknown_val p.1) s.view.variables) ]; memory = s.view.memory; pending = s.view.pending }) s,
+            gave (elim z [ None ↦ names_in E ts | Some p ↦ p.0 ∷ names_in E ts ]),
+            with_view (record { variables = elim z [ None ↦ variables_after E ts s.view.variables | Some p ↦ variables_after E ts (store p.0 (unknown_val p.1) s.view.variables) ]; memory = s.view.memory; pending = s.view.pending }) s,
           )
-      go none rest = rest s
-      go (some p) rest =
+      go None rest = rest s
+      go (Some p) rest =
           let s₁ = with_view (setting p.0 (unknown_val p.1) s.view) s in
           hosted_bind (code_host W second) (λ xs. done (p.0 ∷ xs)) (take_names E ts) s₁
           ∙ ap (λ (y : End (List ℕ) × Held). go_on_from y.0 y.1 (λ xs s'. hosted (code_host W second) (done (p.0 ∷ xs)) s')) (rest s₁)
 
 -- what is done to a view with a note comes to the same
 taken_views : (E : Env) (ts : Terms) (ys : List ℕ) (vs : Overlay Val) (v : View)
-    → take_views E ts (record { variables = vs; memory = v.memory; pending = some ys }) ≡ record { variables = variables_after E ts vs; memory = v.memory; pending = some (ys ++ names_in E ts) }
-taken_views E no_terms ys vs v = ap (λ (l : List ℕ). record { variables = vs; memory = v.memory; pending = some l }) (sym (append-nil ys))
+    → take_views E ts (record { variables = vs; memory = v.memory; pending = Some ys }) ≡ record { variables = variables_after E ts vs; memory = v.memory; pending = Some (ys ++ names_in E ts) }
+taken_views E no_terms ys vs v = ap (λ (l : List ℕ). record { variables = vs; memory = v.memory; pending = Some l }) (sym (append-nil ys))
 taken_views E (more_terms t ts) ys vs v = go (taken_by E t) (λ ys' vs'. taken_views E ts ys' vs' v)
   where
     go : (z : Option (ℕ × Ty))
-        → ((ys' : List ℕ) (vs' : Overlay Val) → take_views E ts (record { variables = vs'; memory = v.memory; pending = some ys' }) ≡ record { variables = variables_after E ts vs'; memory = v.memory; pending = some (ys' ++ names_in E ts) })
-        → take_views E ts (take_view z (record { variables = vs; memory = v.memory; pending = some ys }))
+        → ((ys' : List ℕ) (vs' : Overlay Val) → take_views E ts (record { variables = vs'; memory = v.memory; pending = Some ys' }) ≡ record { variables = variables_after E ts vs'; memory = v.memory; pending = Some (ys' ++ names_in E ts) })
+        → take_views E ts (take_view z (record { variables = vs; memory = v.memory; pending = Some ys }))
         ≡ record {
-          variables = elim z [ none ↦ variables_after E ts vs | some p ↦ variables_after E ts (store p.0 (unknown_val p.1) vs) ];
+          variables = elim z [ None ↦ variables_after E ts vs | Some p ↦ variables_after E ts (store p.0 (unknown_val p.1) vs) ];
           memory = v.memory;
-          pending = some (ys ++ elim z [ none ↦ names_in E ts | some p ↦ p.0 ∷ names_in E ts ]);
+          pending = Some (ys ++ elim z [ None ↦ names_in E ts | Some p ↦ p.0 ∷ names_in E ts ]);
         }
-    go none rest = rest ys vs
-    go (some p) rest =
+    go None rest = rest ys vs
+    go (Some p) rest =
         rest (ys ++ (p.0 ∷ [])) (store p.0 (unknown_val p.1) vs)
-        ∙ ap (λ (l : List ℕ). record { variables = variables_after E ts (store p.0 (unknown_val p.1) vs); memory = v.memory; pending = some l }) (append_assoc ys (p.0 ∷ []) (names_in E ts))
+        ∙ ap (λ (l : List ℕ). record { variables = variables_after E ts (store p.0 (unknown_val p.1) vs); memory = v.memory; pending = Some l }) (append_assoc ys (p.0 ∷ []) (names_in E ts))
 
 abbrev take_act : Env → Terms → Act Val
-take_act E ts = take_names E ts >>= λ taken. leave (some taken) (done nothing)
+take_act E ts = take_names E ts >>= λ taken. leave (Some taken) (done nothing)
 
 take_act_hosted : (W : World) (second : Bool) (E : Env) (ts : Terms) (s : Held)
-    → hosted (code_host W second) (take_act E ts) s ≡ (gave nothing, with_view (take_views E ts (leaving (some []) s.view)) s)
+    → hosted (code_host W second) (take_act E ts) s ≡ (gave nothing, with_view (take_views E ts (leaving (Some []) s.view)) s)
 unfolding hosted code_host
 take_act_hosted W second E ts s =
-    hosted_bind (code_host W second) (λ taken. leave (some taken) (done nothing)) (take_names E ts) s
-    ∙ ap (λ (y : End (List ℕ) × Held). go_on_from y.0 y.1 (λ xs s'. hosted (code_host W second) (leave (some xs) (done nothing)) s')) (take_hosted W second E ts s)
+    hosted_bind (code_host W second) (λ taken. leave (Some taken) (done nothing)) (take_names E ts) s
+    ∙ ap (λ (y : End (List ℕ) × Held). go_on_from y.0 y.1 (λ xs s'. hosted (code_host W second) (leave (Some xs) (done nothing)) s')) (take_hosted W second E ts s)
     ∙ ap (λ (v : View). (gave nothing, with_view v s)) (sym (taken_views E ts [] s.view.variables s.view))
 
 take_runs : {g : Given} {n e : ℕ} {w w' o : List ℕ} {a : Counts} {ts : Trees} → TakesAll g.nodes n e w w' → KidsAt g.nodes n e ts → Ready g w a

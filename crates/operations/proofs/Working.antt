@@ -1,14 +1,13 @@
 -- What an operation does to the workspace alone, as a run on the code's host: bytes stored, at an address, through a pointer, as a field. Assumes nothing.
 use Rattle.std.proofs.Common.{◌≡◌, ℕ, suc, ◌+◌, ◌/◌, ◌%◌, ◌^◌, ◌<◌, Bool, true, false, List, [], ◌∷◌, length, sym, refl, ap, ◌∙◌, subst, ap₂}
-use mathlib.Core.Option.{none}
+use Rattle.std.specs.Prelude.{None, Result, Ok, Err}
 use Rattle.layout.specs.Number.{le}
 use Rattle.value.specs.declared.Ty.{Ty}
 use Rattle.value.specs.declared.Val.{Val}
 use Rattle.value.specs.Value.{cast_to}
 use Rattle.memory.specs.Overlay.{store, stores}
 use Rattle.memory.specs.Entries.{limit}
-use Rattle.memory.specs.declared.Stored.{Stored}
-use Rattle.memory.specs.declared.Stored.TheVariants.{Count, Full}
+use Rattle.memory.specs.declared.Full.{Full as NoRoom}
 use Rattle.definition.specs.Question.{World}
 use Rattle.definition.specs.Act.{Act, done, fail, End, gave, unknown_value, unknown_address, value_written, ◌>>◌}
 use Rattle.definition.specs.Memory.{pokes, store_val}
@@ -19,6 +18,8 @@ use Rattle.workspace.specs.Registers.{word_at, value_at}
 use Rattle.workspace.specs.View.{View, view, Fit, Does, storing}
 use Rattle.workspace.specs.Post.{StoresCells, SetsWord}
 use Rattle.hosting.specs.declared.Counts.{Counts}
+use Rattle.stream.specs.declared.Reason.TheVariants.{UnknownAddress, UnknownValue}
+use Rattle.hosting.specs.declared.Short.TheVariants.{Full, Why}
 use Rattle.hosting.specs.Held.{Held, held, code_host, with_view, with_stored}
 use Rattle.hosting.specs.Ending.{Ending, ended, short, short_of}
 use Rattle.hosting.specs.Runs.{Runs}
@@ -69,7 +70,7 @@ pokes_works {w} {w₁} {w'} {n} address bs d s = record {
   };
 }
 
-pokes_full : {w w' : List ℕ} (address : ℕ) (bs : List ℕ) → limit < length (stores address bs (view w (counts_in w).stored).memory) → how_in w' ≡ how_in w → units_of (counts_in w') ≡ units_of (counts_in w) → Works (pokes address bs) w (short none) w'
+pokes_full : {w w' : List ℕ} (address : ℕ) (bs : List ℕ) → limit < length (stores address bs (view w (counts_in w).stored).memory) → how_in w' ≡ how_in w → units_of (counts_in w') ≡ units_of (counts_in w) → Works (pokes address bs) w (short None) w'
 unfolding held
 pokes_full {w} address bs l e u = record {
   goes = λ g o. record {
@@ -88,20 +89,20 @@ works_as : {A : Type 0} {m n : Act A} {w w' : List ℕ} {e e' : Ending A} → n 
 works_as p q h = record { goes = λ g o. acts (λ _ x _. p) (told q (h.goes g o)) }
 
 module _ (w : List ℕ) (address : ℕ) (v : Val) where
-  pub value_unknown : (r : Bool) (w' : List ℕ) → v.known ≡ false → GivesShort w (record { reason = 6; number = address }) r w' → Works (store_val address v) w (unit_in r w') w'
+  pub value_unknown : (r : Bool) (w' : List ℕ) → v.known ≡ false → GivesShort w (Why UnknownValue address) r w' → Works (store_val address v) w (unit_in r w') w'
   value_unknown r w' e p = record { goes = λ g o. acts (λ _ x _. store_unknown address v e) (short_goes tt p refl) }
 
-  module _ (stored : ℕ) (w₁ : List ℕ) (s : Stored) (k : v.known ≡ true) (e : stored ≡ word_at (registers_part w) 0) (h : StoresCells w stored address (le (v.bits / 8) v.number) w₁ s) where
+  module _ (stored : ℕ) (w₁ : List ℕ) (s : Result ℕ NoRoom) (k : v.known ≡ true) (e : stored ≡ word_at (registers_part w) 0) (h : StoresCells w stored address (le (v.bits / 8) v.number) w₁ s) where
     here : StoresCells w (counts_in w).stored address (le (v.bits / 8) v.number) w₁ s
     here = subst (λ (n : ℕ). StoresCells w n address (le (v.bits / 8) v.number) w₁ s) (e ∙ stored_word w) h
 
-    pub value_stored : (n : ℕ) (w' : List ℕ) → s ≡ Count n → SetsWord w₁ 0 n w' → Works (store_val address v) w (ended tt) w'
+    pub value_stored : (n : ℕ) (w' : List ℕ) → s ≡ Ok n → SetsWord w₁ 0 n w' → Works (store_val address v) w (ended tt) w'
     value_stored n w' c p =
         works_as (store_known address v k) refl (pokes_works address (le (v.bits / 8) v.number) (subst (StoresCells w (counts_in w).stored address (le (v.bits / 8) v.number) w₁) c here) p)
 
-    pub value_full : (r : Bool) (w' : List ℕ) → s ≡ Full → GivesShort w₁ (record { reason = 0; number = 0 }) r w' → Works (store_val address v) w (unit_in r w') w'
-    value_full r w' f p =
-        let full : StoresCells w (counts_in w).stored address (le (v.bits / 8) v.number) w₁ Full = subst (StoresCells w (counts_in w).stored address (le (v.bits / 8) v.number) w₁) f here in
+    pub value_full : (r : Bool) (w' : List ℕ) {x : NoRoom} → s ≡ Err x → GivesShort w₁ Full r w' → Works (store_val address v) w (unit_in r w') w'
+    value_full r w' {x} f p =
+        let full : StoresCells w (counts_in w).stored address (le (v.bits / 8) v.number) w₁ (Err x) = subst (StoresCells w (counts_in w).stored address (le (v.bits / 8) v.number) w₁) f here in
         works_as (store_known address v k) (by_false tt p.no p.why) (pokes_full address (le (v.bits / 8) v.number) full.0 (p.beside.how ∙ how_same w w₁ full.2) (ap units_of p.beside.counts ∙ units_same w w₁ full.2))
 
 -- ---- through a pointer, and a field
@@ -118,7 +119,7 @@ module _ (w : List ℕ) (n : ℕ) (p : Val) (t : Ty) (v : Val) (ep : p ≡ value
   of_result : {e : Ending _} {w' : List ℕ} → Works (store_through n p t v) w e w' → Works (store_through n (result_in w) t v) w e w'
   of_result h = works_as (ap (λ (u : Val). store_through n u t v) (sym (ep ∙ result_value w))) refl h
 
-  pub store_nowhere : (r : Bool) (w' : List ℕ) → p.known ≡ false → GivesShort w (record { reason = 5; number = n }) r w' → Works (store_through n (result_in w) t v) w (told_end r w') w'
+  pub store_nowhere : (r : Bool) (w' : List ℕ) → p.known ≡ false → GivesShort w (Why UnknownAddress n) r w' → Works (store_through n (result_in w) t v) w (told_end r w') w'
   store_nowhere r w' e f = of_result (record { goes = λ g o. acts (λ _ x _. through_unknown n p t v e) (short_goes _ f refl) })
 
   module _ (c : Val) (b : Bool) (w₁ : List ℕ) (e : p.known ≡ true) (ec : c ≡ cast_to v t) (h : Works (store_val p.number c) w (unit_in b w₁) w₁) where

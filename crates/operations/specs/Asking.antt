@@ -1,25 +1,20 @@
 -- What the operations ensure that ask the world: loads, and names that may be symbols. Assumes nothing.
-use Rattle.std.specs.Prelude.{◌≡◌, ℕ, Bool, true, false, not, List, length}
-use Rattle.std.proofs.Math.Option.{none, some}
+use Rattle.std.specs.Prelude.{◌≡◌, ℕ, Bool, true, false, not, List, length, Option, None, Some}
 use Rattle.value.specs.declared.Ty.{Ty}
 use Rattle.value.specs.declared.Val.{Val}
 use Rattle.value.specs.Value.{type, known_val, unknown_val, cast_to}
 use Rattle.files.specs.Nodes.{ref_of}
 use Rattle.files.specs.Program.{Tree}
-use Rattle.memory.specs.declared.Loaded.{Loaded}
-use Rattle.memory.specs.declared.Loaded.TheVariants.{Known, Unknown}
 use Rattle.definition.specs.Question.{Asked, Question, Answer, address_of, size_of, cut}
 use Rattle.definition.specs.Act.{Act, done, fail, ask, set, no_width, ◌>>=◌, ◌>>◌}
 use Rattle.definition.specs.Memory.{load, store_val}
 use Rattle.definition.specs.Term.{nothing}
 use Rattle.definition.specs.Evaluate.{Env, width_in, type_or, look, address_val, assign_val}
 use Rattle.stream.specs.Stream.{placed, advanced}
-use Rattle.stream.specs.Pieces.{optional}
 use Rattle.workspace.specs.Parts.{tables, questions_part}
 use Rattle.workspace.specs.Types.{declared_at}
 use Rattle.workspace.specs.Post.{Kept}
 use Rattle.hosting.specs.declared.How.{How}
-use Rattle.operations.specs.declared.names.Told.{Told}
 use Rattle.hosting.specs.Scene.{Given, given, Scene, Meant}
 use Rattle.hosting.specs.Held.{held, asked, with_asked}
 use Rattle.hosting.specs.Stands.{Stands}
@@ -49,9 +44,9 @@ pub record Asks (g : How → Given) (κ : Asked) (q : Question κ) (y : Answer �
 
 -- ---- loads
 
-abbrev pub found_val : Ty → Loaded → Val
-found_val t (Known n) = known_val n t
-found_val t Unknown = unknown_val t
+abbrev pub found_val : Ty → Option ℕ → Val
+found_val t (Some n) = known_val n t
+found_val t None = unknown_val t
 
 -- with the regions alone, whatever the nodes and symbols are
 pub record LoadsAt (regions : List ℕ) (address : ℕ) (t : Ty) (w₀ o₀ : List ℕ) (r : Bool) (w o : List ℕ) : Type 0 where
@@ -60,26 +55,26 @@ pub record LoadsAt (regions : List ℕ) (address : ℕ) (t : Ty) (w₀ o₀ : Li
 -- ---- symbols
 
 -- of the name at node n, whatever the regions are
-pub record AsksAddress (nodes symbols : List ℕ) (n : ℕ) (w o : List ℕ) (r : Told) (w' o' : List ℕ) : Type 0 where
-  pub asks : (regions : List ℕ) → Asks (given nodes symbols regions) address_of (ref_of nodes n) (optional r.known r.number) w o w' o'
+pub record AsksAddress (nodes symbols : List ℕ) (n : ℕ) (w o : List ℕ) (r : Option ℕ) (w' o' : List ℕ) : Type 0 where
+  pub asks : (regions : List ℕ) → Asks (given nodes symbols regions) address_of (ref_of nodes n) r w o w' o'
 
-pub record AsksSize (nodes symbols : List ℕ) (n : ℕ) (w o : List ℕ) (r : Told) (w' o' : List ℕ) : Type 0 where
-  pub asks : (regions : List ℕ) → Asks (given nodes symbols regions) size_of (ref_of nodes n) (optional r.known r.number) w o w' o'
+pub record AsksSize (nodes symbols : List ℕ) (n : ℕ) (w o : List ℕ) (r : Option ℕ) (w' o' : List ℕ) : Type 0 where
+  pub asks : (regions : List ℕ) → Asks (given nodes symbols regions) size_of (ref_of nodes n) r w o w' o'
 
 -- a name that is not set, read as a symbol
 unfoldable pub symbol_val : Env → ℕ → Act Val
 symbol_val E x = ask address_of x (λ symbol. elim symbol [
-  | none ↦ done (unknown_val (type_or (E.declared x)))
-  | some a ↦ ask size_of x (λ size. elim (width_in size) [ none ↦ done nothing | some bits ↦ load a (type bits true) ])
+  | None ↦ done (unknown_val (type_or (E.declared x)))
+  | Some a ↦ ask size_of x (λ size. elim (width_in size) [ None ↦ done nothing | Some bits ↦ load a (type bits true) ])
 ])
 
 -- a name that is not declared, written
 unfoldable pub write_symbol : ℕ → Val → Act Val
 write_symbol x v = ask address_of x (λ symbol. elim symbol [
-  | none ↦ set x v (done v)
-  | some a ↦ ask size_of x (λ size. elim (width_in size) [
-    | none ↦ fail (no_width x)
-    | some bits ↦ let c = cast_to v (type bits v.signed) in store_val a c >> done c
+  | None ↦ set x v (done v)
+  | Some a ↦ ask size_of x (λ size. elim (width_in size) [
+    | None ↦ fail (no_width x)
+    | Some bits ↦ let c = cast_to v (type bits v.signed) in store_val a c >> done c
   ])
 ])
 
@@ -93,7 +88,7 @@ pub record Writes (nodes symbols : List ℕ) (n : ℕ) (v : Val) (w₀ o₀ : Li
 -- it is assigned, if it is declared; else nothing is done
 pub record IfDeclared (nodes : List ℕ) (n : ℕ) (v : Val) (w : List ℕ) (r : Bool) (w' : List ℕ) : Type 0 where
   pub yes : r ≡ true → (symbols o : List ℕ) → Writes nodes symbols n v w o true w' o
-  pub no : r ≡ false → (none ≡ declared_at (tables w) (ref_of nodes n)) × (w' ≡ w)
+  pub no : r ≡ false → (None ≡ declared_at (tables w) (ref_of nodes n)) × (w' ≡ w)
 
 -- the address of what is at node n
 pub record Addresses (nodes symbols : List ℕ) (n : ℕ) (w₀ o₀ : List ℕ) (r : Bool) (w o : List ℕ) : Type 0 where

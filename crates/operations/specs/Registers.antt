@@ -1,6 +1,5 @@
 -- What the registers say: the counts of a run, how it goes, and what an evaluation came to. Assumes nothing.
-use Rattle.std.specs.Prelude.{ℕ, zero, suc, Bool, true, false, List}
-use Rattle.std.proofs.Math.Option.{some}
+use Rattle.std.specs.Prelude.{ℕ, zero, suc, Bool, true, false, List, Option, None, Some}
 use Rattle.layout.specs.Format.{bool_of}
 use Rattle.value.specs.declared.Val.{Val}
 use Rattle.definition.specs.Act.{no_note, fields_written, value_written}
@@ -9,7 +8,12 @@ use Rattle.workspace.specs.Parts.{registers_part}
 use Rattle.workspace.specs.Registers.{word_at, value_at}
 use Rattle.hosting.specs.declared.Counts.{Counts}
 use Rattle.hosting.specs.declared.How.{How}
+use Rattle.stream.specs.declared.Reason.{Reason}
+use Rattle.stream.specs.Bodies.{reason_at}
 use Rattle.hosting.specs.declared.Short.{Short}
+use Rattle.hosting.specs.declared.Short.TheVariants.{Full, Why}
+use Rattle.operations.specs.declared.results.Told.{Told}
+use Rattle.operations.specs.declared.results.Told.TheVariants.{Wrote, Fields, Written}
 use Rattle.hosting.specs.Ending.{Ending, ended, short, short_of}
 
 -- of the workspace w
@@ -41,25 +45,38 @@ with_units u a = record { stored = a.stored; tally = record { recorded = a.tally
 unfoldable pub how_in : List ℕ → How
 how_in w = record { depth = word_at (registers_part w) 6; regions = word_at (registers_part w) 7; second = bool_of (word_at (registers_part w) 8) }
 
+-- by a reason, or none where the workspace is full
+abbrev pub short_at : Option Reason → ℕ → Short
+short_at None n = Full
+short_at (Some r) n = Why r n
+
 unfoldable pub short_in : List ℕ → Short
-short_in w = record { reason = word_at (registers_part w) 9; number = word_at (registers_part w) 10 }
+short_in w = short_at (reason_at (word_at (registers_part w) 9)) (word_at (registers_part w) 10)
 
 -- the value that an evaluation gave
 unfoldable pub result_in : List ℕ → Val
 result_in w = value_at (registers_part w) 0
 
--- ---- what an Assign told: 0, that it wrote a variable; 1, fields; 2, a value
+-- ---- what an Assign told
+
+abbrev pub told_at : ℕ → Told
+told_at zero = Wrote
+told_at (suc zero) = Fields
+told_at (suc (suc k)) = Written
+
+unfoldable pub kind_in : List ℕ → Told
+kind_in w = told_at (word_at (registers_part w) 11)
 
 abbrev pub did_write : ℕ → Val → Did
-did_write x v = record { wrote = some (x, v); note = no_note }
+did_write x v = record { wrote = Some (x, v); note = no_note }
 
-abbrev pub did_by : ℕ → ℕ → ℕ → Val → Did
-did_by zero x n v = did_write x v
-did_by (suc zero) x n v = did (fields_written x n)
-did_by (suc (suc k)) x n v = did (value_written x v)
+abbrev pub did_by : Told → ℕ → ℕ → Val → Did
+did_by Wrote x n v = did_write x v
+did_by Fields x n v = did (fields_written x n)
+did_by Written x n v = did (value_written x v)
 
 unfoldable pub told_in : List ℕ → Did
-told_in w = did_by (word_at (registers_part w) 11) (word_at (registers_part w) 12) (word_at (registers_part w) 13) (value_at (registers_part w) 1)
+told_in w = did_by (told_at (word_at (registers_part w) 11)) (word_at (registers_part w) 12) (word_at (registers_part w) 13) (value_at (registers_part w) 1)
 
 -- ---- with what an evaluation, an Assign, or a store ended, by what the function gave
 

@@ -1,9 +1,8 @@
 -- What the operations ensure that ask nothing. Assumes nothing.
-use Rattle.std.specs.Prelude.{◌≡◌, ℕ, ◌+◌, ◌%◌, ◌^◌, Bool, true, false, ◌||◌, List, ◌==◌}
-use Rattle.std.proofs.Math.Option.{Option, none, some}
+use Rattle.std.specs.Prelude.{◌≡◌, ℕ, ◌+◌, ◌%◌, ◌^◌, Bool, true, false, ◌||◌, List, ◌==◌, Option, None, Some, Result}
 use Rattle.value.specs.declared.Ty.{Ty}
 use Rattle.value.specs.declared.Val.{Val}
-use Rattle.value.specs.declared.Answer.{Answer}
+use Rattle.value.specs.declared.ArithmeticError.{ArithmeticError}
 use Rattle.value.specs.Value.{cast_to}
 use Rattle.files.specs.Nodes.{kind_of, ref_of}
 use Rattle.files.specs.Program.{Tree, Trees}
@@ -16,8 +15,6 @@ use Rattle.workspace.specs.Parts.{note_part, tables}
 use Rattle.workspace.specs.Note.{pending_in}
 use Rattle.workspace.specs.Types.{pointee_at}
 use Rattle.workspace.specs.Post.{Aside}
-use Rattle.workspace.specs.declared.variables.Slot.{Slot}
-use Rattle.workspace.specs.declared.variables.Slot.TheVariants.{Set}
 use Rattle.hosting.specs.declared.How.{How}
 use Rattle.hosting.specs.declared.Counts.{Counts}
 use Rattle.hosting.specs.declared.Short.{Short}
@@ -50,7 +47,7 @@ pub record Tells (w : List ℕ) (d : Did) (r : Bool) (w' : List ℕ) : Type 0 wh
   pub told : told_in w' ≡ d
 
 -- what an operator answers
-pub record Answers (w : List ℕ) (z : Answer) (r : Bool) (w' : List ℕ) : Type 0 where
+pub record Answers (w : List ℕ) (z : Result Val ArithmeticError) (r : Bool) (w' : List ℕ) : Type 0 where
   pub beside : Beside w w'
   pub ends : end_in r w' ≡ answer_end z
 
@@ -91,18 +88,18 @@ pub record Builds (b : List ℕ) (n e address : ℕ) (w : List ℕ) (r : Bool) (
 -- ---- values at hand
 
 -- a value that is given is that of the tree at node n
-pub record AtHand (b : List ℕ) (n : ℕ) (w : List ℕ) (slot : Slot) : Type 0 where
-  pub goes : (v : Val) → slot ≡ Set v → (g : How → Given) (o : List ℕ) (t : Tree) → Stands b n t → Goes g (λ x. eval (look x.env t)) w o (ended v) w o
+pub record AtHand (b : List ℕ) (n : ℕ) (w : List ℕ) (slot : Option Val) : Type 0 where
+  pub goes : (v : Val) → slot ≡ Some v → (g : How → Given) (o : List ℕ) (t : Tree) → Stands b n t → Goes g (λ x. eval (look x.env t)) w o (ended v) w o
 
 -- ---- places
 
 -- the type that the node n, a Cast to a pointer, points at, in the tables of a workspace
 unfoldable pub pointee_in : List ℕ → List ℕ → ℕ → Option Ty
-pointee_in b w n = elim (kind_of b n == 8) [ true ↦ pointee_at (tables w) (ref_of b n) | false ↦ none ]
+pointee_in b w n = elim (kind_of b n == 8) [ true ↦ pointee_at (tables w) (ref_of b n) | false ↦ None ]
 
 abbrev pub under_if : Option Ty → ℕ → ℕ
-under_if none n = n
-under_if (some t) n = n + 1
+under_if None n = n
+under_if (Some t) n = n + 1
 
 -- the node that is evaluated for a pointer at node n, and the type of what it points at
 pub record Targets (b w : List ℕ) (n : ℕ) (r : Target) : Type 0 where
@@ -116,8 +113,8 @@ base_at b n = elim (kind_of b n == 8) [ true ↦ n + 1 | false ↦ n ]
 -- a value of a type is stored at the address that another value is; node n gave that
 unfoldable pub store_through : ℕ → Val → Ty → Val → Act Did
 store_through n p t v = elim (number_in p) [
-  | none ↦ fail (unknown_address n)
-  | some a ↦ store_val a (cast_to v t) >> done (did (value_written a (cast_to v t)))
+  | None ↦ fail (unknown_address n)
+  | Some a ↦ store_val a (cast_to v t) >> done (did (value_written a (cast_to v t)))
 ]
 
 -- a field's value, at an offset from an address

@@ -1,6 +1,5 @@
 -- What the steps of a Call ensure. Assumes nothing.
-use Rattle.std.specs.Prelude.{◌≡◌, ℕ, ◌+◌, ◌*◌, ◌<◌, ◌≤◌, Bool, List, [], length}
-use Rattle.std.proofs.Math.Option.{Option, none, some}
+use Rattle.std.specs.Prelude.{◌≡◌, ℕ, ◌+◌, ◌*◌, ◌<◌, ◌≤◌, Bool, List, [], length, Option, None, Some}
 use Rattle.std.proofs.lemmas.List.Edits.{sets}
 use Rattle.value.specs.declared.Ty.{Ty}
 use Rattle.value.specs.declared.Val.{Val}
@@ -39,7 +38,7 @@ pub record PutsVal (s : List ℕ) (k : ℕ) (v : Val) (s' : List ℕ) : Type 0 w
 
 pub record Follows (nodes vals : List ℕ) (count n : ℕ) (w₀ o₀ w o : List ℕ) : Type 0 where
   pub goes : (symbols regions : List ℕ) (vs : List Val) → ValuesIn vals 0 count vs → (t : Tree) → Stands nodes n t
-      → Goes (given nodes symbols regions) (λ x. followed x.env (look x.env t) vs) w₀ o₀ (ended none) w o
+      → Goes (given nodes symbols regions) (λ x. followed x.env (look x.env t) vs) w₀ o₀ (ended None) w o
 
 -- ---- the locals whose address is taken
 
@@ -49,8 +48,8 @@ NoteOpen w = Open (pending_in (note_part w))
 
 -- a local becomes unknown, and its name is noted
 abbrev pub take_view : Option (ℕ × Ty) → View → View
-take_view none v = v
-take_view (some p) v = noting p.0 (setting p.0 (unknown_val p.1) v)
+take_view None v = v
+take_view (Some p) v = noting p.0 (setting p.0 (unknown_val p.1) v)
 
 abbrev pub take_views : Env → Terms → View → View
 take_views E no_terms v = v
@@ -63,7 +62,7 @@ Declared t E = (x : ℕ) → x < 512 → declared_at t x ≡ E.declared x
 -- a note with at most one name more
 pub record OneName (xs : List ℕ) (p : Option (List ℕ)) : Type 0 where
   pub names : List ℕ
-  pub noted : p ≡ some names
+  pub noted : p ≡ Some names
   pub most : length names ≤ length xs + 1
 
 -- by the argument at node n
@@ -74,11 +73,11 @@ pub record Takes (nodes : List ℕ) (n : ℕ) (w w' : List ℕ) : Type 0 where
   pub size : length w' ≡ length w
   pub registers : registers_part w' ≡ registers_part w
   pub questions : questions_part w' ≡ questions_part w
-  pub note : (xs : List ℕ) → pending_in (note_part w) ≡ some xs → OneName xs (pending_in (note_part w'))
+  pub note : (xs : List ℕ) → pending_in (note_part w) ≡ Some xs → OneName xs (pending_in (note_part w'))
 
 -- by those from node n up to node e, in a new note
 pub record TakesAll (nodes : List ℕ) (n e : ℕ) (w w' : List ℕ) : Type 0 where
-  pub holds : (E : Env) → Declared (tables w) E → (ts : Trees) → KidsAt nodes n e ts → (stored : ℕ) → view w' stored ≡ take_views E (looks E ts) (leaving (some []) (view w stored))
+  pub holds : (E : Env) → Declared (tables w) E → (ts : Trees) → KidsAt nodes n e ts → (stored : ℕ) → view w' stored ≡ take_views E (looks E ts) (leaving (Some []) (view w stored))
   pub tables : tables w' ≡ tables w
   pub fit : (stored : ℕ) → Fit w stored → Fit w' stored
   pub size : length w' ≡ length w
@@ -90,8 +89,8 @@ pub record TakesAll (nodes : List ℕ) (n e : ℕ) (w w' : List ℕ) : Type 0 wh
 -- what a call does once its arguments have values
 unfoldable pub after_args : List Val → Env → Term → Act Val
 after_args vs E t = followed E (kid 0 (kids t)) vs >>= λ result. elim result [
-  | some answer ↦ done answer
-  | none ↦ take_names E (rest (kids t)) >>= λ taken. leave (some taken) (done nothing)
+  | Some answer ↦ done answer
+  | None ↦ take_names E (rest (kids t)) >>= λ taken. leave (Some taken) (done nothing)
 ]
 
 -- the call at node n

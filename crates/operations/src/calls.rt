@@ -9,8 +9,7 @@ use crate::places::next;
 use crate::results::{ASKED, DEPTH, SECOND};
 use crate::values::unknown;
 use files::nodes;
-use value::Val;
-use workspace::types::Declaration;
+use value::{Ty, Val};
 use workspace::{QUESTIONS, note, registers, types, variables};
 
 // The bytes of a value.
@@ -66,15 +65,15 @@ fn take(nodes: &[u8], ws: &mut [u8], n: usize)
     let name = nodes::reference(nodes, n + 1);
     let declaration = types::declared(ws, name);
     match declaration {
-        Declaration::As(ty) => {
-            variables::set_variable(ws, name, Val::unknown(ty.bits, ty.signed));
+        Some(ty) => {
+            variables::set_variable(ws, name, Val::unknown(ty));
             note::add_name(ws, name);
         }
-        Declaration::Nothing => {}
+        None => {}
     }
 }
 
-// The same of each argument from node first up to node end.
+// The same of each argument from node first up to node end. (A loop by spans: where the next is only a node's own span says.)
 fn take_all(nodes: &[u8], ws: &mut [u8], first: usize, end: usize)
     requires workspace_long { workspace_size ≤ length ws.old }
     requires fine_args { FineArgs nodes.now first end 0 }
@@ -108,5 +107,5 @@ pub fn called(
     let end = next(nodes, n);
     follow(nodes, ws, out, vals, count, n + 1);
     take_all(nodes, ws, first, end);
-    unknown(ws, 64, true)
+    unknown(ws, Ty::I64)
 }

@@ -19,8 +19,8 @@ use crate::values::{type_of, unknown};
 use files::nodes;
 use hosting::Short;
 use index::regions;
-use memory::{Image, Loaded, Stored};
-use spelling::Pointee;
+use memory::{Full, Image};
+use stream::Reason;
 use value::{Ty, Val};
 use workspace::{QUESTIONS, registers, types};
 
@@ -48,17 +48,13 @@ pub fn target_of(nodes: &[u8], ws: &[u8], n: usize) -> Target
 {
     let kind = nodes::kind(nodes, n);
     if kind == nodes::CAST {
-        let p = types::pointee(ws, nodes::reference(nodes, n));
-        if let Pointee::Of(ty) = p {
+        if let Some(ty) = types::pointee(ws, nodes::reference(nodes, n)) {
             return Target { node: n + 1, ty };
         }
     }
     Target {
         node: n,
-        ty: Ty {
-            bits: 64,
-            signed: true,
-        },
+        ty: Ty::I64,
     }
 }
 
@@ -112,13 +108,13 @@ fn ask_read(ws: &mut [u8], out: &mut [u8], address: u64, size: usize, image: Ima
 }
 
 // What a load found.
-fn loaded(ws: &mut [u8], found: Loaded, ty: Ty) -> bool
+fn loaded(ws: &mut [u8], found: Option<u64>, ty: Ty) -> bool
     requires { workspace_size ≤ length ws.old }
     ensures { Gives ws.old (found_val ty found) result ws.new }
 {
     match found {
-        Loaded::Known(n) => is(ws, Val::known(n, ty.bits, ty.signed)),
-        Loaded::Unknown => unknown(ws, ty.bits, ty.signed),
+        Some(n) => is(ws, Val::known(n, ty)),
+        None => unknown(ws, ty),
     }
 }
 
@@ -145,16 +141,16 @@ pub fn store_value(ws: &mut [u8], address: u64, v: Val) -> bool
     ensures { Works (store_val address v) ws.old (unit_in result ws.new) ws.new }
 {
     if !v.known {
-        return ends(ws, Short::UNKNOWN_VALUE, address);
+        return ends(ws, Short::Why(Reason::UnknownValue, address));
     }
     let stored = registers::word(ws, STORED) as usize;
     let s = workspace::store_number(ws, stored, address, v.number, v.bits as usize / 8);
     match s {
-        Stored::Count(n) => {
+        Ok(n) => {
             registers::set_word(ws, STORED, n as u64);
             true
         }
-        Stored::Full => ends(ws, Short::FULL, 0),
+        Err(Full) => ends(ws, Short::Full),
     }
 }
 
@@ -165,7 +161,7 @@ pub fn store(ws: &mut [u8], n: usize, ty: Ty, v: Val) -> bool
 {
     let p = registers::value(ws, RESULT);
     if !p.known {
-        return ends(ws, Short::UNKNOWN_ADDRESS, n as u64);
+        return ends(ws, Short::Why(Reason::UnknownAddress, n as u64));
     }
     let c = v.cast(ty);
     if !store_value(ws, p.number, c) {
@@ -190,7 +186,7 @@ pub fn store_field(nodes: &[u8], ws: &mut [u8], n: usize, address: u64) -> bool
     store_value(ws, place, v.cast(ty))
 }
 
-// How many fields stand from node n up to node end.
+// How many fields stand from node n up to node end. (A loop by spans: where the next is only a node's own span says.)
 fn count(nodes: &[u8], n: usize, end: usize) -> u64
     requires { FineFields nodes.now n end }
     ensures { CountsFields nodes.now n end result }

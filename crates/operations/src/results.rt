@@ -2,13 +2,15 @@
 ghost use Rattle.std.specs.Prelude.{◌≡◌, ◌≤◌, length};
 ghost use Rattle.definition.specs.Act.{fields_written, value_written};
 ghost use Rattle.definition.specs.Evaluate.{did};
+ghost use Rattle.stream.specs.Bodies.{reason_at};
 ghost use Rattle.workspace.specs.Parts.{workspace_size};
-ghost use Rattle.hosting.specs.Ending.{ended, end_of, done_of, note_of};
-ghost use Rattle.operations.specs.Registers.{counts_in, short_in, did_write, told_in, end_in, told_end};
+ghost use Rattle.hosting.specs.Ending.{end_of, did_of, done_of, note_of};
+ghost use Rattle.operations.specs.Registers.{counts_in, short_at, short_in, did_write, told_at, kind_in, told_in, end_in, told_end};
 ghost use Rattle.operations.specs.Steps.{Gives, GivesShort, Tells, Enters, EntersCounts, EntersHow, noted_end};
 
 use files::nodes;
-use hosting::{Counts, Did, Done, How, Note, Outcome, Short, Tally};
+use hosting::{Counts, Did, How, Note, Short, Tally};
+use stream::Reason;
 use value::Val;
 use workspace::{note, registers};
 
@@ -37,7 +39,7 @@ const REASON: usize = 9;
 const NUMBER: usize = 10;
 
 // What an Assign told: what it wrote, where or to which variable, and how many fields.
-pub const TOLD: usize = 11;
+const TOLD: usize = 11;
 
 const WHERE: usize = 12;
 
@@ -47,6 +49,38 @@ const FIELDS: usize = 13;
 pub const RESULT: usize = 0;
 
 pub const WROTE: usize = 1;
+
+// What an Assign wrote: a variable, fields, or a value at an address.
+#[derive(Clone, Copy, PartialEq, Eq)]
+pub enum Told {
+    Wrote,
+    Fields,
+    Written,
+}
+
+// Its number in the registers, and what a number there tells.
+impl From<Told> for u64 {
+    ghost from_gives = { λ told n. told_at n ≡ told };
+
+    fn from(told: Told) -> u64 {
+        match told {
+            Told::Wrote => 0,
+            Told::Fields => 1,
+            Told::Written => 2,
+        }
+    }
+}
+
+pub fn last_told(ws: &[u8]) -> Told
+    requires { workspace_size ≤ length ws.now }
+    ensures { result ≡ kind_in ws.now }
+{
+    match registers::word(ws, TOLD) {
+        0 => Told::Wrote,
+        1 => Told::Fields,
+        _ => Told::Written,
+    }
+}
 
 // ---- put
 
@@ -59,11 +93,22 @@ pub fn is(ws: &mut [u8], v: Val) -> bool
     true
 }
 
-pub fn ends(ws: &mut [u8], reason: u64, number: u64) -> bool
-    requires { workspace_size ≤ length ws.old }
-    ensures { GivesShort ws.old (record { reason = reason; number = number }) result ws.new }
+// A reason's number, 0 where the workspace is full, and what it names.
+fn coded(short: Short) -> (u64, u64)
+    ensures { short_at (reason_at result.0) result.1 ≡ short }
 {
-    registers::set_word(ws, REASON, reason);
+    match short {
+        Short::Full => (0, 0),
+        Short::Why(reason, number) => (u64::from(reason), number),
+    }
+}
+
+pub fn ends(ws: &mut [u8], short: Short) -> bool
+    requires { workspace_size ≤ length ws.old }
+    ensures { GivesShort ws.old short result ws.new }
+{
+    let (code, number) = coded(short);
+    registers::set_word(ws, REASON, code);
     registers::set_word(ws, NUMBER, number);
     false
 }
@@ -73,7 +118,7 @@ pub fn wrote(ws: &mut [u8], name: usize, v: Val) -> bool
     requires { workspace_size ≤ length ws.old }
     ensures { Tells ws.old (did_write name v) result ws.new }
 {
-    registers::set_word(ws, TOLD, 0);
+    registers::set_word(ws, TOLD, u64::from(Told::Wrote));
     registers::set_word(ws, WHERE, name as u64);
     registers::set_value(ws, WROTE, v);
     true
@@ -84,7 +129,7 @@ pub fn fields(ws: &mut [u8], address: u64, count: u64) -> bool
     requires { workspace_size ≤ length ws.old }
     ensures { Tells ws.old (did (fields_written address count)) result ws.new }
 {
-    registers::set_word(ws, TOLD, 1);
+    registers::set_word(ws, TOLD, u64::from(Told::Fields));
     registers::set_word(ws, WHERE, address);
     registers::set_word(ws, FIELDS, count);
     true
@@ -95,7 +140,7 @@ pub fn written(ws: &mut [u8], address: u64, v: Val) -> bool
     requires { workspace_size ≤ length ws.old }
     ensures { Tells ws.old (did (value_written address v)) result ws.new }
 {
-    registers::set_word(ws, TOLD, 2);
+    registers::set_word(ws, TOLD, u64::from(Told::Written));
     registers::set_word(ws, WHERE, address);
     registers::set_value(ws, WROTE, v);
     true
@@ -156,85 +201,69 @@ fn short(ws: &[u8]) -> Short
     requires { workspace_size ≤ length ws.now }
     ensures { result ≡ short_in ws.now }
 {
-    Short {
-        reason: registers::word(ws, REASON),
-        number: registers::word(ws, NUMBER),
+    match Reason::numbered(registers::word(ws, REASON)) {
+        Some(reason) => Short::Why(reason, registers::word(ws, NUMBER)),
+        None => Short::Full,
     }
 }
 
 // What an evaluation came to.
-pub fn outcome(ws: &[u8], ok: bool) -> Outcome
+pub fn outcome(ws: &[u8], ok: bool) -> Result<Val, Short>
     requires { workspace_size ≤ length ws.now }
     ensures { end_of result ≡ end_in ok ws.now }
 {
     if ok {
-        let v = registers::value(ws, RESULT);
-        Outcome::Is(v)
+        Ok(registers::value(ws, RESULT))
     } else {
-        let s = short(ws);
-        Outcome::Ends(s)
+        Err(short(ws))
     }
 }
 
 // What wrote no variable, with a note.
-fn notes(note: Note) -> Done
-    ensures { done_of result ≡ ended (did (note_of note)) }
+fn notes(note: Note) -> Did
+    ensures { did_of result ≡ did (note_of note) }
 {
-    let value = Val::unknown(64, true);
-    Done::Does(Did {
-        wrote: false,
-        name: 0,
-        value,
-        note,
-    })
+    Did { wrote: None, note }
 }
 
-// What an Assign that did not end short told.
-fn told(ws: &[u8]) -> Done
+// What an Assign that did not end short did.
+fn did(ws: &[u8]) -> Did
     requires { workspace_size ≤ length ws.now }
-    ensures { done_of result ≡ ended (told_in ws.now) }
+    ensures { did_of result ≡ told_in ws.now }
 {
     let place = registers::word(ws, WHERE);
     let value = registers::value(ws, WROTE);
-    let told = registers::word(ws, TOLD);
-    match told {
-        0 => Done::Does(Did {
-            wrote: true,
-            name: place as usize,
-            value,
+    match last_told(ws) {
+        Told::Wrote => Did {
+            wrote: Some((place as usize, value)),
             note: Note::Nothing,
-        }),
-        1 => notes(Note::Fields(place, registers::word(ws, FIELDS))),
-        _ => notes(Note::Written(place, value)),
+        },
+        Told::Fields => notes(Note::Fields(place, registers::word(ws, FIELDS))),
+        Told::Written => notes(Note::Written(place, value)),
     }
 }
 
 // What an Assign came to.
-pub fn executed(ws: &[u8], ok: bool) -> Done
+pub fn executed(ws: &[u8], ok: bool) -> Result<Did, Short>
     requires { workspace_size ≤ length ws.now }
     ensures { done_of result ≡ told_end ok ws.now }
 {
-    if ok {
-        return told(ws);
-    }
-    let s = short(ws);
-    Done::Fails(s)
+    if ok { Ok(did(ws)) } else { Err(short(ws)) }
 }
 
 // What a statement came to that is no Assign: a Call or an Intrinsic whose value is unknown is noted, unless a call left a note.
-pub fn noted(ws: &[u8], kind: u8, ok: bool) -> Done
+pub fn noted(ws: &[u8], kind: u8, ok: bool) -> Result<Did, Short>
     requires { workspace_size ≤ length ws.now }
     ensures { done_of result ≡ noted_end kind ok ws.now }
 {
     if !ok {
-        let s = short(ws);
-        return Done::Fails(s);
+        return Err(short(ws));
     }
     let v = registers::value(ws, RESULT);
     let called = (kind == nodes::CALL) | (kind == nodes::INTRINSIC);
     if called & !v.known & !note::has_note(ws) {
-        notes(Note::Unknown)
+        Ok(notes(Note::Unknown))
     } else {
-        notes(Note::Nothing)
+        Ok(notes(Note::Nothing))
     }
 }

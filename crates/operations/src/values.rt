@@ -10,10 +10,11 @@ ghost use Rattle.workspace.specs.Types.{type_at};
 ghost use Rattle.operations.specs.Registers.{result_in, told_in};
 ghost use Rattle.operations.specs.Steps.{Gives, Answers};
 
-use crate::results::{RESULT, TOLD, WROTE, ends, is};
+use crate::results::{RESULT, Told, WROTE, ends, is, last_told};
 use files::nodes;
 use hosting::Short;
-use value::{Answer, BinaryOp, Ty, Val};
+use stream::Reason;
+use value::{ArithmeticError, BinaryOp, Ty, Val};
 use workspace::{registers, types};
 
 // A Constant's value.
@@ -24,7 +25,7 @@ pub fn constant_of(nodes: &[u8], n: usize) -> Val
 {
     let width = nodes::width(nodes, n);
     let value = nodes::value(nodes, n);
-    Val::known(value, width * 8, true)
+    Val::known(value, Ty::new(width * 8, true))
 }
 
 pub fn constant(nodes: &[u8], ws: &mut [u8], n: usize) -> bool
@@ -44,21 +45,21 @@ pub fn register(nodes: &[u8], ws: &mut [u8], n: usize) -> bool
     ensures { Gives ws.old (unknown_val (type (width_of nodes.now n) true)) result ws.new }
 {
     let width = nodes::width(nodes, n);
-    is(ws, Val::unknown(width, true))
+    is(ws, Val::unknown(Ty::new(width, true)))
 }
 
-pub fn unknown(ws: &mut [u8], bits: u32, signed: bool) -> bool
+pub fn unknown(ws: &mut [u8], ty: Ty) -> bool
     requires { workspace_size ≤ length ws.old }
-    ensures { Gives ws.old (unknown_val (type bits signed)) result ws.new }
+    ensures { Gives ws.old (unknown_val ty) result ws.new }
 {
-    is(ws, Val::unknown(bits, signed))
+    is(ws, Val::unknown(ty))
 }
 
 pub fn truth(ws: &mut [u8], number: u64) -> bool
     requires { workspace_size ≤ length ws.old }
     ensures { Gives ws.old (known_val number (type 8 false)) result ws.new }
 {
-    is(ws, Val::known(number, 8, false))
+    is(ws, Val::known(number, Ty::U8))
 }
 
 // A ConstantCondition.
@@ -77,7 +78,7 @@ pub fn choose(ws: &mut [u8], condition: Val, then: Val) -> bool
     ensures { Gives ws.old (chosen condition then (result_in ws.old)) result ws.new }
 {
     if !condition.known {
-        return unknown(ws, then.bits, then.signed);
+        return unknown(ws, then.ty());
     }
     if condition.number == 0 {
         let otherwise = registers::value(ws, RESULT);
@@ -94,11 +95,9 @@ pub fn operate(nodes: &[u8], ws: &mut [u8], n: usize, l: Val, r: Val) -> bool
     ensures { Answers ws.old (binary_of (operator_of (flag_of nodes.now n)) l r) result ws.new }
 {
     let flag = nodes::flag(nodes, n);
-    let op = BinaryOp::of(flag);
-    let answer = value::binary(op, l, r);
-    match answer {
-        Answer::Value(v) => is(ws, v),
-        Answer::DivisionByZero => ends(ws, Short::BY_ZERO, 0),
+    match value::binary(BinaryOp::from(flag), l, r) {
+        Ok(v) => is(ws, v),
+        Err(ArithmeticError::DivisionByZero) => ends(ws, Short::Why(Reason::ByZero, 0)),
     }
 }
 
@@ -107,11 +106,12 @@ pub fn value_of(ws: &mut [u8]) -> bool
     requires { workspace_size ≤ length ws.old }
     ensures { Gives ws.old (value_of (told_in ws.old).wrote) result ws.new }
 {
-    if registers::word(ws, TOLD) == 0 {
-        let v = registers::value(ws, WROTE);
-        is(ws, v)
-    } else {
-        unknown(ws, 64, true)
+    match last_told(ws) {
+        Told::Wrote => {
+            let v = registers::value(ws, WROTE);
+            is(ws, v)
+        }
+        _ => unknown(ws, Ty::I64),
     }
 }
 

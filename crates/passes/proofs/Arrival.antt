@@ -2,7 +2,7 @@
 use mathlib.Core.Path.{◌≡◌, refl, sym, ap, ◌∙◌, subst}
 use mathlib.Core.Bool.{Bool, true, false, true≢false}
 use mathlib.Core.List.{List, map}
-use mathlib.Core.Option.{none, some}
+use Rattle.std.specs.Prelude.{None, Some}
 use Prim.Native.Nat.{ℕ, ◌^◌, ◌<◌}
 use native.Mathlib.Omega.{arith}
 use lib.ListN.{length}
@@ -20,7 +20,6 @@ use Rattle.definition.specs.Record.{questions_body}
 use Rattle.definition.specs.Run.{acts, start, stop_of, ran_of, ran_in, ran, address_limit}
 use Rattle.definition.proofs.Hosts.{Alike}
 use Rattle.definition.proofs.Walked.{Stopped, finished}
-use Rattle.index.specs.Answers.{option_of}
 use Rattle.index.specs.Regions.{RegionsIndexed}
 use Rattle.workspace.specs.Parts.{tables, regions_part, blocks_part}
 use Rattle.workspace.specs.View.{View, Fit}
@@ -31,16 +30,16 @@ use Rattle.hosting.specs.declared.How.{How}
 use Rattle.hosting.specs.declared.Indexed.{Indexed}
 use Rattle.hosting.specs.declared.Stop.{Stop}
 use Rattle.hosting.specs.declared.Stop.TheVariants.{ReturnedNothing, Returned, Steps, Unknown, NoBlock, NoBlocks, NoReturn, Halted}
+use Rattle.hosting.specs.declared.Short.TheVariants.{Full, Why as Because}
 use Rattle.hosting.specs.declared.Walked.{Walked}
 use Rattle.hosting.specs.Scene.{Given, given, Narrow, SymbolsRead, Ready, Meant}
 use Rattle.hosting.specs.Held.{Held, held}
 use Rattle.hosting.specs.Ending.{Ending, ended, short}
 use Rattle.hosting.specs.Runs.{Came, Kept}
 use Rattle.hosting.specs.Routine.{Rooted}
-use Rattle.hosting.specs.Walking.{stop_end, unknown_end, WalksAll}
+use Rattle.hosting.specs.Walking.{stop_end, WalksAll}
 use Rattle.hosting.specs.Setting.{how_of, given_of, scene_of, Tabled, Started, Finished}
 use Rattle.hosting.proofs.Running.{kept_on}
-use Rattle.hosting.proofs.Reasons.{why_some, why_none}
 use Rattle.setup.specs.Heads.{Typed}
 use Rattle.walk.specs.Units.{Balanced}
 use Rattle.passes.specs.Passing.{start_counts, BesideIf, Passed, PassedIf, Passes, walked_of, out_of, WalksOf, full_of}
@@ -89,12 +88,13 @@ walk_told routine world limit p q s t u e h = rw (p, q, s, t, u, e) at h
 
 -- ---- how the walk ends
 
-pub full_end : (limit : ℕ) (stop : Stop) → full_of stop ≡ true → stop_end limit stop ≡ short none
+pub full_end : (limit : ℕ) (stop : Stop) → full_of stop ≡ true → stop_end limit stop ≡ short None
 unfolding full_of
 full_end limit ReturnedNothing h = absurd (true≢false (sym h))
 full_end limit (Returned v) h = absurd (true≢false (sym h))
 full_end limit Steps h = absurd (true≢false (sym h))
-full_end limit (Unknown at s) h = ap (unknown_end (option_of at)) (why_none s.reason s.number h)
+full_end limit (Unknown at Full) h = refl
+full_end limit (Unknown at (Because r n)) h = absurd (true≢false (sym h))
 full_end limit (NoBlock b) h = absurd (true≢false (sym h))
 full_end limit NoBlocks h = absurd (true≢false (sym h))
 full_end limit (NoReturn at) h = absurd (true≢false (sym h))
@@ -109,9 +109,8 @@ unfolding full_of
 whole_end limit ReturnedNothing h = record { stop = _; same = refl }
 whole_end limit (Returned v) h = record { stop = _; same = refl }
 whole_end limit Steps h = record { stop = _; same = refl }
-whole_end limit (Unknown at s) h =
-    let y = why_some s.reason s.number h in
-    record { stop = statements.Unknown (option_of at) y.0; same = ap (unknown_end (option_of at)) y.1 }
+whole_end limit (Unknown at Full) h = absurd (true≢false h)
+whole_end limit (Unknown at (Because r n)) h = record { stop = _; same = refl }
 whole_end limit (NoBlock b) h = record { stop = _; same = refl }
 whole_end limit NoBlocks h = record { stop = _; same = refl }
 whole_end limit (NoReturn at) h = record { stop = _; same = refl }
@@ -154,14 +153,14 @@ module _ (routine world call : List ℕ) (second : Bool) (old : List ℕ) where
         part = k.part;
         beside = k.beside;
       }
-  came p (short (some y)) w out a l c f = absurd (never_short y (sym l.end ∙ ap (λ (z : End statements.Stop × Held). z.0) c))
-  came p (short none) w out a l c f = subst (λ (m : Overlay Cell). address_limit < length m) l.state.memory c
+  came p (short (Some y)) w out a l c f = absurd (never_short y (sym l.end ∙ ap (λ (z : End statements.Stop × Held). z.0) c))
+  came p (short None) w out a l c f = subst (λ (m : Overlay Cell). address_limit < length m) l.state.memory c
 
   -- what is kept of what the walk leaves
   kept_fit : (e : Ending statements.Stop) (g : Given) (w : List ℕ) (a : Counts) → Kept e (Ready g w a) → Kept e (Fit w a.stored)
   kept_fit (ended s) g w a h = h.fit
-  kept_fit (short (some y)) g w a h = h.fit
-  kept_fit (short none) g w a h = tt
+  kept_fit (short (Some y)) g w a h = h.fit
+  kept_fit (short None) g w a h = tt
 
   pub walk_arrives : (x : Indexed) (w₀ w₁ w₂ out : List ℕ) (depth steps : ℕ) (r : Walked) → length old < most → length w₀ < 2 ^ 64 → (steps ≡ (limits_of call).steps) × (depth ≡ (limits_of call).depth) → Tabled routine world w₀ x → Started routine call w₀ w₁
       → WalksAll (given_of routine world (how_of depth x.regions second)) (body routine 4) (body routine 5) x.facts steps w₁ old (start_counts steps) r w₂ out
@@ -184,10 +183,10 @@ module _ (routine world call : List ℕ) (second : Bool) (old : List ℕ) where
 -- ---- the variables at the end
 
 module _ (routine world call : List ℕ) (second : Bool) (old w₀ : List ℕ) where
-  full_pass : (e : Ending statements.Stop) (w out : List ℕ) (a : Counts) → e ≡ short none → WalksOf routine world call second old w₀ e w out a → Passes (ran routine world call) second old w₀ e w out a
+  full_pass : (e : Ending statements.Stop) (w out : List ℕ) (a : Counts) → e ≡ short None → WalksOf routine world call second old w₀ e w out a → Passes (ran routine world call) second old w₀ e w out a
   unfolding ran ran_in ran_of walked_of out_of
   full_pass e w out a p h =
-      let k : WalksOf routine world call second old w₀ (short none) w out a = subst (λ (z : Ending statements.Stop). WalksOf routine world call second old w₀ z w out a) p h in
+      let k : WalksOf routine world call second old w₀ (short None) w out a = subst (λ (z : Ending statements.Stop). WalksOf routine world call second old w₀ z w out a) p h in
       record { comes = subst (λ (z : Ending statements.Stop). PassedIf (ran routine world call) second old z w out a) (sym p) k.comes; tables = h.tables }
 
   pub pass_full : (limit : ℕ) (stop : Stop) (w out : List ℕ) (a : Counts) (b : Bool) → b ≡ full_of stop → b ≡ true → WalksOf routine world call second old w₀ (stop_end limit stop) w out a

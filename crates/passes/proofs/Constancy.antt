@@ -2,7 +2,7 @@
 use mathlib.Core.Path.{◌≡◌, refl, sym, ap, ◌∙◌, subst}
 use mathlib.Core.Bool.{false}
 use mathlib.Core.List.{List, []}
-use mathlib.Core.Option.{none, some}
+use Rattle.std.specs.Prelude.{None, Some, Result}
 use Prim.Native.Nat.{ℕ, ◌^◌, ◌≤◌, ◌<◌}
 use native.Mathlib.Omega.{arith}
 use lib.ListN.{length}
@@ -22,7 +22,7 @@ use Rattle.definition.proofs.Hosts.{Alike}
 use Rattle.workspace.specs.View.{view, Fit}
 use Rattle.stream.specs.Stream.{most}
 use Rattle.hosting.specs.declared.Counts.{Counts}
-use Rattle.hosting.specs.declared.Outcome.{Outcome}
+use Rattle.hosting.specs.declared.Short.{Short}
 use Rattle.hosting.specs.Stands.{Stands, Fine}
 use Rattle.hosting.specs.Scene.{Given, given, Scene, Ready}
 use Rattle.hosting.specs.Held.{Held, held}
@@ -71,10 +71,10 @@ module _ (old : List ℕ) (o : Out Val) where
 
   came : (p : End Val × Held) (e : Ending Val) (g : Given) (w out : List ℕ) (a : Counts) → EndsSo p → Came p e (held w out a) → Kept e (Ready g w a) → EvaluatedIf o e
   came p (ended v) g w out a l c f = held_few w out a p (gave v) l c f.fit
-  came p (short (some y)) g w out a l c f = held_few w out a p (stopped y) l c f.fit
-  came p (short none) g w out a l c f = subst (λ (m : Overlay Cell). address_limit < length m) l.state.memory c
+  came p (short (Some y)) g w out a l c f = held_few w out a p (stopped y) l c f.fit
+  came p (short None) g w out a l c f = subst (λ (m : Overlay Cell). address_limit < length m) l.state.memory c
 
-pub evaluates : (routine : List ℕ) (n count : ℕ) (w w₁ w' old out nodes : List ℕ) (a : Counts) (r : Outcome) → length old < most → length w < 2 ^ 64 → nodes ≡ body routine 3 → a ≡ start_counts 10000
+pub evaluates : (routine : List ℕ) (n count : ℕ) (w w₁ w' old out nodes : List ℕ) (a : Counts) (r : Result Val Short) → length old < most → length w < 2 ^ 64 → nodes ≡ body routine 3 → a ≡ start_counts 10000
     → Stands (body routine 3) n (tree_at (body routine 3) n) → ConstantTabled routine w count → Enters w (how_of 0 count false) a w₁ → Evals nodes [] [] n w₁ old r w' out → Evaluates (constant_run routine n) (end_of r)
 unfolding constant_run held
 evaluates routine n count w w₁ w' old out nodes a r room long p q h t en v =

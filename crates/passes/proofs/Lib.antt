@@ -1,5 +1,6 @@
 pub mod Simulation
 pub mod Arrival
+pub mod Files
 pub mod Buffer
 pub mod Measures
 pub mod Streams

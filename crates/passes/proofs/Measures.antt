@@ -3,7 +3,7 @@ use mathlib.Core.Path.{◌≡◌, refl, sym, ap, ◌∙◌}
 use mathlib.Core.Logic.{◌⊎◌, inl, inr}
 use mathlib.Core.Bool.{Bool, true, false, not, ◌&&◌, true≢false}
 use mathlib.Core.List.{List}
-use mathlib.Core.Option.{Option, none, some}
+use Rattle.std.specs.Prelude.{Option, None, Some}
 use Prim.Native.Nat.{ℕ, zero, suc, ◌*◌, ◌≤◌, ◌<◌}
 use native.Mathlib.Omega.{arith}
 use lib.ListN.{length}
@@ -34,8 +34,8 @@ those_short f x zero = omega arith
 those_short f x (suc n) = go (f x) (those_short f (suc x) n)
   where
     go : (o : Option Val) → length (those f (suc x) n) ≤ n → length (entry_if x o (those f (suc x) n)) ≤ suc n
-    go none h = omega arith
-    go (some v) h = omega arith
+    go None h = omega arith
+    go (Some v) h = omega arith
 
 pub few_variables : (f : List ℕ) (n : ℕ) → n ≡ length (variables_in f) → n ≤ 512
 unfolding variables_in

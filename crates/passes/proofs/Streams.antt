@@ -7,12 +7,10 @@ use native.Mathlib.Omega.{arith}
 use lib.ListN.{length, take, drop, length-drop}
 use lib.Seq.{sets, take_at}
 use borrow.Rule.Slice.PartMut.{mid_of, put_mid}
-use Rattle.files.specs.Refusal.{routine_refusal, world_ok, call_ok, refusal}
-use Rattle.files.proofs.Accepted.{run}
 use Rattle.definition.specs.Statements.{Stop}
 use Rattle.definition.specs.Record.{Ran, steps_body, questions_body, record_bytes}
 use Rattle.workspace.specs.Parts.{questions_place, questions_part}
-use Rattle.workspace.proofs.LendLaws.{questions_lent}
+use Rattle.layout.proofs.StoreLaws.{part_stored}
 use Rattle.stream.specs.Stream.{most, Streamed}
 use Rattle.stream.specs.Bodies.{steps_place}
 use Rattle.stream.proofs.RecordLaws.{length_record}
@@ -21,12 +19,6 @@ use Rattle.hosting.specs.Ending.{Ending, ended, short}
 use Rattle.passes.specs.Passing.{Holds, Keeps, PassedIf, Passes, FirstPassedIf, FirstPasses, QuestionsPut}
 use Rattle.passes.proofs.Buffer.{length_part, rest_stored}
 use Rattle.passes.proofs.Measures.{few_addresses}
-
-pub files_ok : (r w c : List ℕ) → refusal r w c ≡ 0 → (routine_refusal r ≡ 0) × (world_ok w ≡ true) × (call_ok c ≡ true)
-files_ok r w c h = let a = run r w c h in (a.routine, a.world, a.call)
-
-pub call_ok_lem : (r w c : List ℕ) → refusal r w c ≡ 0 → call_ok c ≡ true
-call_ok_lem r w c h = (run r w c h).call
 
 -- ---- the questions beside the tables
 
@@ -71,13 +63,14 @@ module _ (R : Ran) (s x w : List ℕ) (q : ℕ) (n : Counts) where
       ap₂ (λ (m : ℕ) (l : List ℕ). take m l) e (k.streamed.begun (omega (arith, k.size, e))) ∙ take_at b (drop (length b) k.before) (length b) refl
 
   pub questions_copied : Holds R w n → Keeps R w n → n.tally.asked ≤ length w - questions_place → q + n.tally.asked ≤ length s
-      → x ≡ take n.tally.asked (mid_of questions_place (length w - questions_place) w) ++ drop n.tally.asked (mid_of q (length s - q) s) → QuestionsPut R s q (put_mid q (length s - q) s x) w n
+      → x ≡ take (questions_place + n.tally.asked - questions_place) (drop questions_place w) → QuestionsPut R s q (put_mid q (q + n.tally.asked - q) s x) w n
+  unfolding questions_part
   questions_copied h k l r e =
       let m = n.tally.asked in
-      let lent : mid_of questions_place (length w - questions_place) w ≡ questions_part w = questions_lent w in
-      let f : take m (mid_of questions_place (length w - questions_place) w) ≡ questions_body R.questions = ap (take m) lent ∙ kept_front k (omega (arith, length_questions w)) in
-      let c : m ≡ length (questions_body R.questions) = omega (arith, k.size, k.streamed.room, k.streamed.counted.cursor, length_questions w) in
-      record { holds = h; written = rest_stored s x (questions_body R.questions) q m c r (e ∙ ap (λ (b : List ℕ). b ++ drop m (mid_of q (length s - q) s)) f) }
+      let only : questions_place + m - questions_place ≡ m = omega arith in
+      let f : x ≡ questions_body R.questions = e ∙ ap (λ (i : ℕ). take i (questions_part w)) only ∙ kept_front k (omega (arith, length_questions w)) in
+      let c : length x ≡ m = ap length f ∙ omega (arith, k.size, k.streamed.room, k.streamed.counted.cursor, length_questions w) in
+      record { holds = h; written = part_stored s x q m r c ∙ ap (sets s q) f }
 
 -- those that a second pass wrote
 passed_if : (R : Ran) (s x w₀ w : List ℕ) (q : ℕ) (n₀ n : Counts) (e : Ending Stop) → Holds R w₀ n₀ → q + n₀.tally.asked ≤ length s → PassedIf R true (mid_of q (length s - q) s) e w x n

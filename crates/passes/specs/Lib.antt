@@ -1,3 +1,4 @@
 pub mod Passing
 pub mod Writing
 pub mod Evaluating
+pub mod Accepted

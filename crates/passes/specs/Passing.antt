@@ -1,5 +1,5 @@
 -- What a pass over a routine leaves, told by what the definition's run comes to. Assumes nothing.
-use Rattle.std.specs.Prelude.{◌≡◌, Bool, true, false, List, ℕ, ◌≤◌, ◌<◌, length, eqb}
+use Rattle.std.specs.Prelude.{◌≡◌, Bool, true, false, List, ℕ, ◌≤◌, ◌<◌, length}
 use Rattle.std.proofs.lemmas.List.Edits.{sets}
 use Rattle.files.specs.Program.{program_of}
 use Rattle.files.specs.Call.{limits_of}
@@ -15,6 +15,8 @@ use Rattle.hosting.specs.declared.Tally.{Tally}
 use Rattle.hosting.specs.declared.Counts.{Counts}
 use Rattle.hosting.specs.declared.Stop as code
 use Rattle.hosting.specs.declared.Stop.TheVariants.{ReturnedNothing, Returned, Steps, Unknown, NoBlock, NoBlocks, NoReturn, Halted}
+use Rattle.hosting.specs.declared.Short.{Short}
+use Rattle.hosting.specs.declared.Short.TheVariants.{Full, Why}
 use Rattle.hosting.specs.Ending.{Ending, ended, short}
 use Rattle.hosting.specs.Runs.{Kept}
 use Rattle.stream.specs.Bodies.{steps_place}
@@ -102,11 +104,15 @@ pub record WalksOf (routine world call : List ℕ) (second : Bool) (old w₀ : L
 
 -- ---- whether the workspace had no room
 
+abbrev pub without_room : Short → Bool
+without_room Full = true
+without_room (Why r n) = false
+
 unfoldable pub full_of : code.Stop → Bool
 full_of ReturnedNothing = false
 full_of (Returned v) = false
 full_of Steps = false
-full_of (Unknown at s) = eqb s.reason 0
+full_of (Unknown at s) = without_room s
 full_of (NoBlock b) = false
 full_of NoBlocks = false
 full_of (NoReturn at) = false

@@ -9,17 +9,23 @@ ghost use Rattle.passes.specs.Evaluating.{Evaluates};
 
 use files::call::Limits;
 use files::table::body;
-use hosting::{How, Outcome};
+use hosting::{How, Reads, Short};
 use operations::results;
+use value::Val;
 
 // The expression at node n is evaluated, in a workspace that is set up.
-fn evaluate_in(routine: &[u8], n: usize, ws: &mut [u8], regions: usize) -> Outcome
+fn evaluate_in(routine: &[u8], n: usize, ws: &mut [u8], regions: usize) -> Result<Val, Short>
     requires constant_accepted { constant_refusal routine.now n ≡ 0 }
     requires constant_tabled { ConstantTabled routine.now ws.old regions }
     ensures { Evaluates (constant_run routine.now n) (end_of result) }
 {
     let nodes = body(routine, 3);
     let none = &routine[0..0];
+    let reads = Reads {
+        nodes,
+        symbols: none,
+        regions: none,
+    };
     let mut out = [0; 1];
     let how = How {
         depth: 0,
@@ -28,10 +34,10 @@ fn evaluate_in(routine: &[u8], n: usize, ws: &mut [u8], regions: usize) -> Outco
     };
     let at = super::no_counts(Limits::STEPS as u64);
     results::enter(ws, how, at);
-    machine::eval(nodes, none, none, ws, &mut out, n)
+    machine::eval(reads, ws, &mut out, n)
 }
 
-pub fn evaluate(routine: &[u8], n: usize, ws: &mut [u8]) -> Outcome
+pub fn evaluate(routine: &[u8], n: usize, ws: &mut [u8]) -> Result<Val, Short>
     requires constant_accepted { constant_refusal routine.now n ≡ 0 }
     requires workspace_long { workspace_size ≤ length ws.old }
     ensures { Evaluates (constant_run routine.now n) (end_of result) }

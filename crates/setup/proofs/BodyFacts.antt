@@ -24,8 +24,7 @@ use Rattle.index.proofs.Accepted.{names_read, types_read, routine_types, routine
 use Rattle.index.proofs.RegionPlaces.{regions_accepted}
 use Rattle.index.proofs.TextPlaces.{types_count}
 use Rattle.hosting.specs.declared.Facts.{Facts}
-use Rattle.hosting.specs.declared.Returns.{Returns}
-use Rattle.hosting.specs.declared.Returns.TheVariants.{As, Void}
+use Rattle.std.specs.Prelude.{Option, None, Some}
 use Rattle.setup.specs.Heads.{Heads}
 use Rattle.setup.specs.Post.{Finds, Returning, Knows, Indexes, IndexesBlocks}
 use Rattle.setup.proofs.HeadLaws.{has, heads}
@@ -77,13 +76,13 @@ module _ {returns t : List ℕ} {s : Bool} (e : t ≡ returns) (f : s ≡ same t
   is_void : {u : Bool} → s ≡ u → same returns (text "void") ≡ u
   is_void q = ap (λ (l : List ℕ). same l (text "void")) (sym e) ∙ sym f ∙ q
 
-  pub returns_void : s ≡ true → Returning returns Void
+  pub returns_void : s ≡ true → Returning returns None
   returns_void q = record { is = λ v. rw (is_void q) }
 
-  pub returns_as_lem : {ty : Ty} → s ≡ false → ty ≡ type_of t → Returning returns (As ty)
+  pub returns_as_lem : {ty : Ty} → s ≡ false → ty ≡ type_of t → Returning returns (Some ty)
   returns_as_lem q g = record { is = λ v. rw (is_void q, g, e) }
 
-pub knows : (r : List ℕ) {names types head : List ℕ} {count i u x : ℕ} {R : Returns} → names ≡ body r 0 → types ≡ body r 1 → head ≡ body r 2 → i ≡ number_at head 10 2
+pub knows : (r : List ℕ) {names types head : List ℕ} {count i : ℕ} {u x : Option ℕ} {R : Option Ty} → names ≡ body r 0 → types ≡ body r 1 → head ≡ body r 2 → i ≡ number_at head 10 2
     → Returning (get_or (texts_in types) i []) R → Finds names (text "__builtin_unreachable") u → Finds names (text "__analysis_halted") x
     → Knows (program_of r) count (record { blocks = count; returns = R; unreachable = u; halted = x })
 unfolding program_of

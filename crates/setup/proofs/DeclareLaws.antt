@@ -1,7 +1,7 @@
 -- Variables declared one after another: the last of a name stands. Assumes nothing.
 use mathlib.Core.Path.{◌≡◌, refl, sym, ap, subst, ◌∙◌}
 use mathlib.Core.List.{List, [], ◌∷◌, ◌++◌}
-use mathlib.Core.Option.{none, some}
+use Rattle.std.specs.Prelude.{None, Some}
 use Prim.Native.Nat.{ℕ, ◌+◌, ◌≤◌, ◌<◌}
 use native.Mathlib.Omega.{arith}
 use borrow.Author.Tests.{eq-eqb, ne_eqb}
@@ -22,7 +22,7 @@ use Rattle.setup.proofs.HeadLaws.{variables_more}
 
 module _ (types : List (List ℕ)) where
   -- one more at the end
-  declared_here : (vs : List Variable) (v : Variable) (x : ℕ) → v.name ≡ x → declared_in types (vs ++ (v ∷ [])) x ≡ some (type_of (get_or types v.type []))
+  declared_here : (vs : List Variable) (v : Variable) (x : ℕ) → v.name ≡ x → declared_in types (vs ++ (v ∷ [])) x ≡ Some (type_of (get_or types v.type []))
   unfolding declared_in
   declared_here [] v x e = rw (eq-eqb v.name x e, declared_in)
   declared_here (u ∷ vs) v x e = rw (declared_here vs v x e, declared_in)
@@ -34,7 +34,7 @@ module _ (types : List (List ℕ)) where
 
 pub declare_none : (head w : List ℕ) → DeclaresSome head 0 w w
 unfolding declared_in listed
-declare_none head w = record { kept = kept_none w; types = λ i. refl; pointees = λ i. refl; declared = λ types typed none x. none x }
+declare_none head w = record { kept = kept_none w; types = λ i. refl; pointees = λ i. refl; declared = λ types typed None x. None x }
 
 -- the type of a variable, as the table had it at first
 pub declare_coded : {head w₀ w : List ℕ} {k i : ℕ} {ty : Ty} → DeclaresSome head k w₀ w → AllCoded (tables w₀) → i < 512 → ty ≡ type_at (tables w) i → Coded ty
@@ -52,15 +52,15 @@ declare_more {head} {w₀} {w} {w'} {k} {v} {ty} so r e d = record {
     is_type : (types : List (List ℕ)) → Typed types (tables w₀) → ty ≡ type_of (get_or types (variable_at head k).type [])
     is_type types typed = e ∙ so.types v.ty ∙ typed.is v.ty r.typed ∙ ap (λ (i : ℕ). type_of (get_or types i [])) r.type
 
-    step : (types : List (List ℕ)) → Typed types (tables w₀) → ((x : ℕ) → declared_at (tables w₀) x ≡ none) → (x : ℕ) → declared_at (tables w') x ≡ declared_in types (variables head k ++ (variable_at head k ∷ [])) x
+    step : (types : List (List ℕ)) → Typed types (tables w₀) → ((x : ℕ) → declared_at (tables w₀) x ≡ None) → (x : ℕ) → declared_at (tables w') x ≡ declared_in types (variables head k ++ (variable_at head k ∷ [])) x
     step types typed nothing x =
         elim (compared v.name x) [
           | below l o ↦ other types typed nothing x (λ z. omega arith)
-          | equal l o ↦ ap (declared_at (tables w')) (sym l) ∙ d.here ∙ ap some (is_type types typed) ∙ sym (declared_here types (variables head k) (variable_at head k) x (sym r.name ∙ l))
+          | equal l o ↦ ap (declared_at (tables w')) (sym l) ∙ d.here ∙ ap Some (is_type types typed) ∙ sym (declared_here types (variables head k) (variable_at head k) x (sym r.name ∙ l))
           | above l o ↦ other types typed nothing x (λ z. omega arith)
         ]
       where
-        other : (types : List (List ℕ)) → Typed types (tables w₀) → ((x : ℕ) → declared_at (tables w₀) x ≡ none) → (x : ℕ) → (v.name ≡ x → ⊥) → declared_at (tables w') x ≡ declared_in types (variables head k ++ (variable_at head k ∷ [])) x
+        other : (types : List (List ℕ)) → Typed types (tables w₀) → ((x : ℕ) → declared_at (tables w₀) x ≡ None) → (x : ℕ) → (v.name ≡ x → ⊥) → declared_at (tables w') x ≡ declared_in types (variables head k ++ (variable_at head k ∷ [])) x
         other types typed nothing x n =
             d.others x (λ z. n (sym z)) ∙ so.declared types typed nothing x ∙ sym (declared_other types (variables head k) (variable_at head k) x (λ z. n (r.name ∙ z)))
 

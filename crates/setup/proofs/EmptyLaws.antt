@@ -1,7 +1,7 @@
 -- A workspace cleared from the variables on, whatever it held. Assumes nothing.
 use mathlib.Core.Path.{◌≡◌, sym, ap, subst, ◌∙◌}
 use mathlib.Core.List.{List}
-use mathlib.Core.Option.{none}
+use Rattle.std.specs.Prelude.{None}
 use Prim.Native.Nat.{ℕ, ◌+◌, ◌≤◌}
 use native.Mathlib.Omega.{arith}
 use lib.ListN.{length, take, drop, replicate, length-replicate, length-drop}
@@ -42,7 +42,7 @@ module _ (k : ℕ) (w s : List ℕ) (least : lent ≤ k) (most : frame_place + k
   unfolding frame_part note_part
   cleared_fresh = fresh_parts after (omega (arith, cleared_size)) (zero_part 0 frame_size (omega arith)) (zero_part frame_size note_size (omega arith))
 
-  pub cleared_names : lent + declared_size ≤ k → (x : ℕ) → declared_at (tables after) x ≡ none
+  pub cleared_names : lent + declared_size ≤ k → (x : ℕ) → declared_at (tables after) x ≡ None
   unfolding tables declared_part
   cleared_names l x = declared_none (tables after) x (subst Zeros (sym (part_take 0 declared_size tables_size (drop tables_place after) (omega arith))) (zero_part lent declared_size l))
 

@@ -2,6 +2,7 @@
 use mathlib.Core.Path.{◌≡◌, refl, sym, ap, ap₂, subst, ◌∙◌}
 use mathlib.Core.Bool.{Bool, true, false, ◌&&◌, true≢false}
 use mathlib.Core.List.{List, [], ◌∷◌}
+use Rattle.std.specs.Prelude.{None, Some}
 use Prim.Native.Nat.{ℕ, ◌+◌, ◌≤◌, ◌<◌}
 use native.Mathlib.Omega.{arith}
 use borrow.Author.Tests.{eq-eqb, ne_eqb, eqb-true}
@@ -70,7 +71,7 @@ module _ {names wanted : List ℕ} {at x : ℕ} (good : 1 ≤ names_in names) (s
       missed = below_more _ x so.missed (rw its_name at (sym e ∙ f));
     }
 
-    pub seek_found : {s : Bool} → ((i : ℕ) → Fits w8 (get_or names i 0)) → 1 ≤ length wanted → s ≡ same t wanted → s ≡ true → Finds names wanted x
+    pub seek_found : {s : Bool} → ((i : ℕ) → Fits w8 (get_or names i 0)) → 1 ≤ length wanted → s ≡ same t wanted → s ≡ true → Finds names wanted (Some x)
     seek_found {s} bytes some e f = record {
       is = λ k l. elim (compared k x) [
         | below g o ↦ so.missed k g ∙ sym (ne_eqb k x (λ q. omega arith))
@@ -92,9 +93,9 @@ module _ {names wanted : List ℕ} {at x : ℕ} (good : 1 ≤ names_in names) (s
             (λ m. subst (λ (w : List ℕ). same (get_or (texts_in names) k []) w ≡ false) is_wanted
             (before_differs _ _ (names_ascend names good short (each_byte names (λ i. (bytes i).fits)) x k g m)).1)
 
-  pub seek_done : 1 ≤ length wanted → length names ≤ at → Finds names wanted 65536
+  pub seek_done : 1 ≤ length wanted → length names ≤ at → Finds names wanted None
   seek_done some h = record {
     is = λ k l. either_way x k
         (λ m. empty_differs _ wanted (no_text names k (omega (arith, past_last all x so.here h, m))) some)
-        (λ m. so.missed k m) ∙ sym (ne_eqb k 65536 (λ q. omega arith));
+        (λ m. so.missed k m);
   }

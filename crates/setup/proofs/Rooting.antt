@@ -2,7 +2,7 @@
 use mathlib.Core.Path.{◌≡◌, refl, sym}
 use mathlib.Core.Bool.{Bool, true}
 use mathlib.Core.List.{List, [], ◌++◌}
-use mathlib.Core.Option.{none}
+use Rattle.std.specs.Prelude.{None}
 use Prim.Native.Nat.{ℕ, zero, suc, ◌+◌, ◌*◌, ◌≤◌, ◌<◌}
 use native.Mathlib.Omega.{arith}
 use lib.ListN.{length, get_or}
@@ -99,7 +99,7 @@ module _ (r : List ℕ) (t : List ℕ)
   }
 
   -- the same for `constant_value`
-  pub constant_meant : ((x : ℕ) → declared_at t x ≡ none) → SymbolsIndexed (body r 0) [] [] (symbols_part t) → (regions : ℕ)
+  pub constant_meant : ((x : ℕ) → declared_at t x ≡ None) → SymbolsIndexed (body r 0) [] [] (symbols_part t) → (regions : ℕ)
       → Meant (constant_given r regions) (record { env = constant_env (program_of r); world = nothing }) t
   unfolding symbol_of
   constant_meant declared symbols regions = record {

@@ -3,11 +3,11 @@
 use mathlib.Core.Path.{◌≡◌, refl, sym, ap, ap₂, subst, ◌∙◌}
 use mathlib.Core.Bool.{true}
 use mathlib.Core.List.{List, [], ◌∷◌, ◌++◌, map}
-use mathlib.Core.Option.{Option, none, some}
+use Rattle.std.specs.Prelude.{Option, None, Some, slice_get}
 use Prim.Native.Nat.{ℕ, zero, suc, ◌+◌, ◌≤◌, ◌<◌}
 use native.Mathlib.Nat.{not-suc-le-zero, le_of_suc-le-suc}
 use native.Mathlib.Omega.{arith}
-use lib.ListN.{length, get_or, get_elem?}
+use lib.ListN.{length, get_or}
 use Rattle.value.specs.declared.Ty.{Ty}
 use Rattle.value.specs.declared.Val.{Val}
 use Rattle.value.specs.Value.{type, known_val, unknown_val, cast_to}
@@ -17,14 +17,10 @@ use Rattle.files.specs.Program.{Variable, listed, variable_at}
 use Rattle.files.proofs.ListedLaws.{length_listed}
 use Rattle.definition.specs.Walk.{parameters_set, unset_added}
 use Rattle.files.specs.Call.{limits_in}
-use Rattle.workspace.specs.declared.variables.Slot.{Slot}
-use Rattle.workspace.specs.declared.variables.Slot.TheVariants.{Set, Unset}
 use Rattle.workspace.specs.Parts.{frame_part, tables}
 use Rattle.workspace.specs.Variables.{variables_in}
 use Rattle.workspace.specs.Types.{type_at}
 use Rattle.workspace.specs.View.{View, view, Changes, setting}
-use Rattle.workspace.specs.Post.{slot_as}
-use Rattle.workspace.proofs.CopyLaws.{set_is, unset_is}
 use Rattle.hosting.specs.Setting.{with_variables}
 use Rattle.setup.specs.declared.variables.Named.{Named}
 use Rattle.setup.specs.Heads.{variable_count, parameter_count, variables, Reads, Typed, argument_if, added_if, adding, starting, ending}
@@ -34,16 +30,16 @@ use Rattle.setup.proofs.HeadLaws.{variables_more}
 
 -- ---- one more at the end
 
-added_one : (o : Option Val) (x : ℕ) (t : Ty) (m : Overlay Val) → ◌≡◌ {A = Overlay Val} (elim o [ none ↦ store x (unknown_val t) m | some v ↦ m ]) (added_if o x t m)
-added_one none x t m = refl
-added_one (some v) x t m = refl
+added_one : (o : Option Val) (x : ℕ) (t : Ty) (m : Overlay Val) → ◌≡◌ {A = Overlay Val} (elim o [ None ↦ store x (unknown_val t) m | Some v ↦ m ]) (added_if o x t m)
+added_one None x t m = refl
+added_one (Some v) x t m = refl
 
 module _ (types : List (List ℕ)) where
   abbrev type_text : Variable → Ty
   type_text v = type_of (get_or types v.type [])
 
   set_last : (vs : List Variable) (v : Variable) (args : List Val) (m : Overlay Val)
-      → parameters_set types (vs ++ (v ∷ [])) args m ≡ store v.name (argument_if (get_elem? args (length vs)) (type_text v)) (parameters_set types vs args m)
+      → parameters_set types (vs ++ (v ∷ [])) args m ≡ store v.name (argument_if (slice_get args (length vs)) (type_text v)) (parameters_set types vs args m)
   unfolding parameters_set
   set_last [] v [] m = refl
   set_last [] v (a ∷ args) m = refl
@@ -67,7 +63,7 @@ is_type : (types : List (List ℕ)) (w₀ w : List ℕ) {head : List ℕ} {k : �
 is_type types w₀ w {head} {k} {v} r e typed same =
     e ∙ ap (λ (t : List ℕ). type_at t v.ty) same ∙ typed.is v.ty r.typed ∙ ap (λ (i : ℕ). type_of (get_or types i [])) r.type
 
-pub start_more : {head call w₀ w w' : List ℕ} {k : ℕ} {v : Named} {ty : Ty} {a : Val} → Reads head k v → ty ≡ type_at (tables w) v.ty → StartsSome head call k w₀ w → a ≡ argument_if (get_elem? (arguments_in call) k) ty → Changes w (setting v.name a) w' → StartsSome head call (k + 1) w₀ w'
+pub start_more : {head call w₀ w w' : List ℕ} {k : ℕ} {v : Named} {ty : Ty} {a : Val} → Reads head k v → ty ≡ type_at (tables w) v.ty → StartsSome head call k w₀ w → a ≡ argument_if (slice_get (arguments_in call) k) ty → Changes w (setting v.name a) w' → StartsSome head call (k + 1) w₀ w'
 start_more {head} {call} {w₀} {w} {w'} {k} {v} {ty} {a} r e so p c = record {
   size = c.size ∙ so.size;
   same = c.tables ∙ so.same;
@@ -78,7 +74,7 @@ start_more {head} {call} {w₀} {w} {w'} {k} {v} {ty} {a} r e so p c = record {
     last types typed m =
         let f = variable_at head k in
         ap₂ (λ (x : ℕ) (z : Val). store x z (parameters_set types (variables head k) (arguments_in call) m)) r.name
-        (p ∙ ap₂ (λ (i : ℕ) (t : Ty). argument_if (get_elem? (arguments_in call) i) t) (sym (length_listed (variable_at head) 0 k)) (is_type types w₀ w r e typed so.same))
+        (p ∙ ap₂ (λ (i : ℕ) (t : Ty). argument_if (slice_get (arguments_in call) i) t) (sym (length_listed (variable_at head) 0 k)) (is_type types w₀ w r e typed so.same))
         ∙ sym (ap (λ vs. parameters_set types vs (arguments_in call) m) (variables_more head k) ∙ set_last types (variables head k) f (arguments_in call) m)
 
     step : (types : List (List ℕ)) → Typed types (tables w₀) → (x : View) → setting v.name a (starting types head k (arguments_in call) x) ≡ starting types head (k + 1) (arguments_in call) x
@@ -115,35 +111,35 @@ end_done {head} {w₀} {w} {k} so l g e = let q : k ≡ variable_count head = om
 
 -- ---- one name that may be set
 
-module _ (w : List ℕ) (x : ℕ) (t : Ty) {r : Slot} (e : r ≡ slot_as (find x (variables_in (frame_part w)))) where
-  pub added_set : (v : Val) → r ≡ Set v → Changes w (adding x t) w
+module _ (w : List ℕ) (x : ℕ) (t : Ty) {r : Option Val} (e : r ≡ find x (variables_in (frame_part w))) where
+  pub added_set : (v : Val) → r ≡ Some v → Changes w (adding x t) w
   unfolding view
   added_set v q =
-      let o = set_is (find x (variables_in (frame_part w))) v (sym q ∙ e) in
+      let o = sym e ∙ q in
       record { holds = λ s. rw o; tables = refl; fit = λ s h. h; size = refl; registers = refl; questions = refl }
 
-  pub added_unset : {v : Val} {w' : List ℕ} → r ≡ Unset → v ≡ unknown_val t → Changes w (setting x v) w' → Changes w (adding x t) w'
+  pub added_unset : {v : Val} {w' : List ℕ} → r ≡ None → v ≡ unknown_val t → Changes w (setting x v) w' → Changes w (adding x t) w'
   unfolding view
   added_unset {v} q p c =
-      let o = unset_is (find x (variables_in (frame_part w))) (sym q ∙ e) in
+      let o = sym e ∙ q in
       record { holds = λ s. c.holds s ∙ rw (o, p); tables = c.tables; fit = c.fit; size = c.size; registers = c.registers; questions = c.questions }
 
 -- ---- an argument
 
-argument_there : (l : List ℕ) (k : ℕ) → k < length l → get_elem? (map (λ a. known_val a (type 64 true)) l) k ≡ some (known_val (get_or l k 0) (type 64 true))
+argument_there : (l : List ℕ) (k : ℕ) → k < length l → slice_get (map (λ a. known_val a (type 64 true)) l) k ≡ Some (known_val (get_or l k 0) (type 64 true))
 argument_there [] k h = absurd (not-suc-le-zero h)
 argument_there (a ∷ l) zero h = refl
 argument_there (a ∷ l) (suc k) h = argument_there l k (le_of_suc-le-suc h)
 
-argument_missing : (l : List ℕ) (k : ℕ) → length l ≤ k → get_elem? (map (λ a. known_val a (type 64 true)) l) k ≡ none
+argument_missing : (l : List ℕ) (k : ℕ) → length l ≤ k → slice_get (map (λ a. known_val a (type 64 true)) l) k ≡ None
 argument_missing [] k h = refl
 argument_missing (a ∷ l) zero h = absurd (not-suc-le-zero h)
 argument_missing (a ∷ l) (suc k) h = argument_missing l k (le_of_suc-le-suc h)
 
 module _ (call : List ℕ) (k n : ℕ) (t : Ty) (e : n ≡ length (limits_in call).arguments) where
-  pub argument_given : {a : ℕ} {u v : Val} → k < n → a ≡ get_or (limits_in call).arguments k 0 → u ≡ known_val a (type 64 true) → v ≡ cast_to u t → v ≡ argument_if (get_elem? (arguments_in call) k) t
+  pub argument_given : {a : ℕ} {u v : Val} → k < n → a ≡ get_or (limits_in call).arguments k 0 → u ≡ known_val a (type 64 true) → v ≡ cast_to u t → v ≡ argument_if (slice_get (arguments_in call) k) t
   argument_given {a} {u} {v} l p q r =
       r ∙ ap (λ (z : Val). cast_to z t) (q ∙ ap (λ (z : ℕ). known_val z (type 64 true)) p) ∙ sym (ap (λ (o : Option Val). argument_if o t) (argument_there (limits_in call).arguments k (omega (arith, l, e))))
 
-  pub argument_none : {v : Val} → n ≤ k → v ≡ unknown_val t → v ≡ argument_if (get_elem? (arguments_in call) k) t
+  pub argument_none : {v : Val} → n ≤ k → v ≡ unknown_val t → v ≡ argument_if (slice_get (arguments_in call) k) t
   argument_none l r = r ∙ sym (ap (λ (o : Option Val). argument_if o t) (argument_missing (limits_in call).arguments k (omega (arith, l, e))))

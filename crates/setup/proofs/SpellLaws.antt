@@ -5,31 +5,30 @@ use Prim.Native.Nat.{ℕ, ◌+◌, ◌≤◌, ◌<◌}
 use native.Mathlib.Omega.{arith}
 use borrow.Author.Count.{below_more}
 use lib.ListN.{length, get_or}
+use Rattle.std.specs.Prelude.{Option, None}
 use Rattle.value.specs.declared.Ty.{Ty}
-use Rattle.spelling.specs.declared.Pointee.{Pointee}
-use Rattle.spelling.specs.declared.Pointee.TheVariants.{NoPointer}
 use Rattle.spelling.specs.Spelling.{type_of, pointee_of}
 use Rattle.files.specs.Program.{texts_in}
 use Rattle.index.specs.Places.{place_from, text_size}
 use Rattle.index.specs.Texts.{Texts, TextAt, text_count}
 use Rattle.workspace.specs.Types.{CodedIf}
-use Rattle.workspace.specs.Post.{pointed_at, PutsType}
+use Rattle.workspace.specs.Post.{PutsType}
 use Rattle.hosting.specs.Scene.{pointee}
 use Rattle.setup.specs.Post.{Spells, Unspelled}
 use Rattle.setup.proofs.TypeLaws.{coded_pointed, pointed}
 use Rattle.setup.proofs.Following.{kept_none, kept_then}
 use Rattle.setup.proofs.TextWalk.{walk_none, walk_on_lem, one_there, text_there, walk_room, past_last, no_text}
 
-pub coded_pointee : {p : Pointee} (t : List ℕ) → p ≡ pointee_of t → CodedIf (pointed_at p)
-coded_pointee t f = subst (λ (p : Pointee). CodedIf (pointed_at p)) (sym f) (coded_pointed t)
+pub coded_pointee : {p : Option Ty} (t : List ℕ) → p ≡ pointee_of t → CodedIf p
+coded_pointee t f = subst CodedIf (sym f) (coded_pointed t)
 
 -- one type more: what text i spells
-spells_more : {b w₀ w w' t : List ℕ} {i : ℕ} {ty : Ty} {p : Pointee} → Spells b i w₀ w → t ≡ get_or (texts_in b) i [] → ty ≡ type_of t → p ≡ pointee_of t → PutsType w i ty (pointed_at p) w'
+spells_more : {b w₀ w w' t : List ℕ} {i : ℕ} {ty : Ty} {p : Option Ty} → Spells b i w₀ w → t ≡ get_or (texts_in b) i [] → ty ≡ type_of t → p ≡ pointee_of t → PutsType w i ty p w'
     → Spells b (i + 1) w₀ w'
 spells_more {t = t} {i} so is e f puts = record {
   kept = kept_then so.kept puts.kept;
   types = below_more _ i (λ j l. puts.types j (λ z. omega arith) ∙ so.types j l) (puts.here ∙ e ∙ ap type_of is);
-  pointees = below_more _ i (λ j l. puts.pointees j (λ z. omega arith) ∙ so.pointees j l) (puts.there ∙ ap pointed_at f ∙ pointed t ∙ ap pointee is);
+  pointees = below_more _ i (λ j l. puts.pointees j (λ z. omega arith) ∙ so.pointees j l) (puts.there ∙ f ∙ pointed t ∙ ap pointee is);
   declared = λ x. puts.declared x ∙ so.declared x;
 }
 
@@ -70,7 +69,7 @@ module _ {b w₀ w : List ℕ} {at i : ℕ} (all : Texts b) (so : Spelling b w�
       pub spell_room : at + length t + 1 ≤ length b
       spell_room = walk_room all i so.here one text.size
 
-      pub spell_more : {w' : List ℕ} {ty : Ty} {p : Pointee} → ty ≡ type_of t → p ≡ pointee_of t → PutsType w i ty (pointed_at p) w' → Spelling b w₀ w' (at + length t + 1) (i + 1)
+      pub spell_more : {w' : List ℕ} {ty : Ty} {p : Option Ty} → ty ≡ type_of t → p ≡ pointee_of t → PutsType w i ty p w' → Spelling b w₀ w' (at + length t + 1) (i + 1)
       spell_more e f puts = record {
         spells = spells_more so.spells (text.is i all one so.here) e f puts;
         here = walk_on_lem b i so.here text.size;
@@ -85,10 +84,10 @@ module _ {b w₀ w : List ℕ} {at i : ℕ} (all : Texts b) (so : Spelling b w�
 pub unspelled_none : (m : ℕ) (w : List ℕ) → Unspelled m m w w
 unspelled_none m w = record { size = refl; spells = λ b w₀ h so. so }
 
-pub unspelled_more : {m i : ℕ} {w₀ w w' : List ℕ} {ty : Ty} → m ≤ i → Unspelled m i w₀ w → ty ≡ type_of [] → PutsType w i ty (pointed_at NoPointer) w' → Unspelled m (i + 1) w₀ w'
+pub unspelled_more : {m i : ℕ} {w₀ w w' : List ℕ} {ty : Ty} → m ≤ i → Unspelled m i w₀ w → ty ≡ type_of [] → PutsType w i ty None w' → Unspelled m (i + 1) w₀ w'
 unspelled_more {i = i} l so e puts = record {
   size = puts.kept.size ∙ so.size;
-  spells = λ b w₀ h s. spells_more {t = []} {p = NoPointer} (so.spells b w₀ h s) (sym (no_text b i (omega arith))) e refl puts;
+  spells = λ b w₀ h s. spells_more {t = []} {p = None} (so.spells b w₀ h s) (sym (no_text b i (omega arith))) e refl puts;
 }
 
 pub unspelled_done : {m n i : ℕ} {w w' : List ℕ} → n ≤ i → Unspelled m i w w' → Unspelled m n w w'

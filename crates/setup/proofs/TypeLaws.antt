@@ -2,17 +2,15 @@
 use mathlib.Core.Path.{◌≡◌, refl, sym, subst}
 use mathlib.Core.Bool.{Bool, true, false, cond, not}
 use mathlib.Core.List.{List, [], ◌∷◌}
-use mathlib.Core.Option.{Option, none, some}
+use Rattle.std.specs.Prelude.{Option, None, Some}
 use Prim.Native.Nat.{ℕ, ◌≤◌, ◌<◌}
 use native.Mathlib.Omega.{arith}
 use lib.ListN.{get_or}
 use Rattle.value.specs.declared.Ty.{Ty}
 use Rattle.value.specs.Value.{type}
 use Rattle.spelling.specs.Spelling.{is, is_bool, is_wide_unsigned, is_wide_signed, is_short_int, signed_word, unsigned_word, alone, two, named, pieces, any_unsigned, base_of, ends_star, before_star, type_of, pointee_of}
-use Rattle.spelling.specs.declared.Pointee.TheVariants.{Of, NoPointer}
 use Rattle.definition.specs.Evaluate.{type_or}
 use Rattle.workspace.specs.Types.{Coded, CodedIf, pointee_at}
-use Rattle.workspace.specs.Post.{pointed_at}
 use Rattle.hosting.specs.Scene.{pointee, Narrow}
 
 either : (t : Bool) {x y : Ty} → Coded x → Coded y → Coded (cond t x y)
@@ -63,17 +61,17 @@ pub coded_type : {t : Ty} (s : List ℕ) → t ≡ type_of s → Coded t
 coded_type s e = subst Coded (sym e) (coded s)
 
 -- what a spelling points at
-pub pointed : (s : List ℕ) → pointed_at (pointee_of s) ≡ pointee s
+pub pointed : (s : List ℕ) → pointee_of s ≡ pointee s
 pointed s = go (ends_star s) (type_of (before_star s))
   where
-    go : (t : Bool) (x : Ty) → pointed_at (cond t (Of x) NoPointer) ≡ elim t [ true ↦ some x | false ↦ none ]
+    go : (t : Bool) (x : Ty) → cond t (Some x) None ≡ elim t [ true ↦ Some x | false ↦ None ]
     go true x = refl
     go false x = refl
 
-pub coded_pointed : (s : List ℕ) → CodedIf (pointed_at (pointee_of s))
+pub coded_pointed : (s : List ℕ) → CodedIf (pointee_of s)
 coded_pointed s = go (ends_star s) (type_of (before_star s)) (coded (before_star s))
   where
-    go : (t : Bool) (x : Ty) → Coded x → CodedIf (pointed_at (cond t (Of x) NoPointer))
+    go : (t : Bool) (x : Ty) → Coded x → CodedIf (cond t (Some x) None)
     go true x c = c
     go false x c = tt
 
@@ -81,7 +79,7 @@ coded_pointed s = go (ends_star s) (type_of (before_star s)) (coded (before_star
 narrow_pointee : (s : List ℕ) → (type_or (pointee s)).bits ≤ 64
 narrow_pointee s = go (ends_star s) (type_of (before_star s)) (coded (before_star s))
   where
-    go : (t : Bool) (x : Ty) → Coded x → (type_or (elim t [ true ↦ some x | false ↦ none ])).bits ≤ 64
+    go : (t : Bool) (x : Ty) → Coded x → (type_or (elim t [ true ↦ Some x | false ↦ None ])).bits ≤ 64
     go true x c = c.most
     go false x c = omega arith
 

@@ -1,6 +1,5 @@
 -- The variables that a head tells, and what is done with each of them. Assumes nothing.
-use Rattle.std.specs.Prelude.{◌≡◌, List, [], ℕ, ◌+◌, ◌-◌, ◌*◌, ◌/◌, ◌<◌, ◌≤◌, length, get_or}
-use Rattle.std.proofs.Math.Option.{Option, none, some}
+use Rattle.std.specs.Prelude.{◌≡◌, List, [], ℕ, ◌+◌, ◌-◌, ◌*◌, ◌/◌, ◌<◌, ◌≤◌, length, get_or, Option, None, Some}
 use Rattle.layout.specs.Number.{number_at}
 use Rattle.value.specs.declared.Ty.{Ty}
 use Rattle.value.specs.declared.Val.{Val}
@@ -51,13 +50,13 @@ pub record AllCoded (t : List ℕ) : Type 0 where
 
 -- an argument cast to a type; one that is missing is unknown
 abbrev pub argument_if : Option Val → Ty → Val
-argument_if none t = unknown_val t
-argument_if (some a) t = cast_to a t
+argument_if None t = unknown_val t
+argument_if (Some a) t = cast_to a t
 
 -- a name that is not set is unknown
 abbrev pub added_if : Option Val → ℕ → Ty → Overlay Val → Overlay Val
-added_if (some v) x t m = m
-added_if none x t m = store x (unknown_val t) m
+added_if (Some v) x t m = m
+added_if None x t m = store x (unknown_val t) m
 
 abbrev pub adding : ℕ → Ty → View → View
 adding x t v = with_variables (added_if (find x v.variables) x t v.variables) v

@@ -1,7 +1,7 @@
 -- What the functions that make a workspace ready ensure. Assumes nothing.
-use Rattle.std.specs.Prelude.{◌≡◌, true, false, List, [], map, ℕ, ◌<◌, ◌≤◌, length, get_or, eqb}
-use Rattle.std.proofs.Math.Option.{none}
+use Rattle.std.specs.Prelude.{◌≡◌, true, false, List, [], map, ℕ, ◌<◌, ◌≤◌, length, get_or, Option, None}
 use Rattle.layout.specs.Text.{text, same}
+use Rattle.value.specs.declared.Ty.{Ty}
 use Rattle.value.specs.declared.Val.{Val}
 use Rattle.value.specs.Value.{type, known_val, cast_to}
 use Rattle.spelling.specs.Spelling.{type_of}
@@ -16,20 +16,19 @@ use Rattle.workspace.specs.Parts.{tables, symbols_part, regions_part, blocks_par
 use Rattle.workspace.specs.Types.{type_at, pointee_at, declared_at}
 use Rattle.workspace.specs.View.{view, fresh, Fit, Changes}
 use Rattle.workspace.specs.Post.{Kept, SameTypes}
-use Rattle.hosting.specs.declared.Returns.{Returns}
 use Rattle.hosting.specs.declared.Facts.{Facts}
 use Rattle.hosting.specs.Scene.{pointee}
-use Rattle.hosting.specs.Routine.{returns_as, Named}
+use Rattle.hosting.specs.Routine.{returns_as, is_name, Named}
 use Rattle.setup.specs.Heads.{variables, Typed, starting, ending}
 
 -- ---- texts
 
--- a name's number, or 65,536 where no name has the text
-pub record Finds (names wanted : List ℕ) (r : ℕ) : Type 0 where
-  pub is : (x : ℕ) → x < 65536 → same (get_or (texts_in names) x []) wanted ≡ eqb x r
+-- the number of the name that has the text, if one has
+pub record Finds (names wanted : List ℕ) (r : Option ℕ) : Type 0 where
+  pub is : (x : ℕ) → x < 65536 → same (get_or (texts_in names) x []) wanted ≡ is_name r x
 
 -- what is done with a value that a routine of a return type gives
-pub record Returning (returns : List ℕ) (r : Returns) : Type 0 where
+pub record Returning (returns : List ℕ) (r : Option Ty) : Type 0 where
   pub is : (v : Val) → ◌≡◌ {A = Val} (elim (same returns (text "void")) [ true ↦ v | false ↦ cast_to v (type_of returns) ]) (returns_as r v)
 
 -- the facts of a program of so many blocks
@@ -55,7 +54,7 @@ pub record Unspelled (m n : ℕ) (w w' : List ℕ) : Type 0 where
 pub record TypesSet (routine w : List ℕ) : Type 0 where
   pub holds : view w 0 ≡ fresh
   pub fit : Fit w 0
-  pub declared : (x : ℕ) → declared_at (tables w) x ≡ none
+  pub declared : (x : ℕ) → declared_at (tables w) x ≡ None
   pub types : (i : ℕ) → i < 512 → type_at (tables w) i ≡ type_of (get_or (program_of routine).types i [])
   pub pointees : (i : ℕ) → i < 512 → pointee_at (tables w) i ≡ pointee (get_or (program_of routine).types i [])
 
@@ -64,7 +63,7 @@ pub record DeclaresSome (head : List ℕ) (n : ℕ) (w w' : List ℕ) : Type 0 w
   pub kept : Kept w w'
   pub types : (i : ℕ) → type_at (tables w') i ≡ type_at (tables w) i
   pub pointees : (i : ℕ) → pointee_at (tables w') i ≡ pointee_at (tables w) i
-  pub declared : (types : List (List ℕ)) → Typed types (tables w) → ((x : ℕ) → declared_at (tables w) x ≡ none) → (x : ℕ) → declared_at (tables w') x ≡ declared_in types (variables head n) x
+  pub declared : (types : List (List ℕ)) → Typed types (tables w) → ((x : ℕ) → declared_at (tables w) x ≡ None) → (x : ℕ) → declared_at (tables w') x ≡ declared_in types (variables head n) x
 
 -- the indexes of symbols and of regions are made, the latter with so many entries
 pub record Indexes (names world_names symbols regions w w' : List ℕ) (count : ℕ) : Type 0 where

@@ -7,18 +7,19 @@ ghost use Rattle.setup.specs.Post.{Returning, Knows};
 
 use crate::texts::{find_name, text_numbered};
 use files::table::body;
-use hosting::{Facts, Returns};
+use hosting::Facts;
+use value::Ty;
 
-// What a routine whose return type is type i does with a value that it returns.
-fn returns_of(types: &[u8], i: usize) -> Returns
+// The type to which a routine whose return type is type i casts a value that it returns, none for `void`.
+fn returns_of(types: &[u8], i: usize) -> Option<Ty>
     requires { (Texts types.now) × (i < text_count types.now) }
     ensures { Returning (get_or (texts_in types.now) i []) result }
 {
     let text = text_numbered(types, i);
-    if layout::same_bytes(text, b"void") {
-        return Returns::Void;
+    if text == b"void".as_slice() {
+        return None;
     }
-    Returns::As(spelling::type_of(text))
+    Some(spelling::type_of(text))
 }
 
 // The facts of a routine of so many blocks.
@@ -27,7 +28,7 @@ pub fn facts_of(routine: &[u8], blocks: usize) -> Facts
     ensures { Knows (program_of routine.now) blocks result }
 {
     let names = body(routine, 0);
-    let i = layout::get16(body(routine, 2), 10) as usize;
+    let i = layout::get::<2>(body(routine, 2), 10) as usize;
     Facts {
         blocks,
         returns: returns_of(body(routine, 1), i),

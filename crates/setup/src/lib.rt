@@ -23,7 +23,7 @@ fn set_types(routine: &[u8], ws: &mut [u8])
     requires { (routine_refusal routine.now ≡ 0) × (workspace_size ≤ length ws.old) }
     ensures { (TypesSet routine.now ws.new) × (length ws.new ≡ length ws.old) }
 {
-    layout::clear(&mut ws[workspace::FRAME..workspace::TYPES]);
+    ws[workspace::FRAME..workspace::TYPES].fill(0);
     texts::put_types(body(routine, 1), ws);
 }
 

@@ -7,13 +7,11 @@ ghost use Rattle.workspace.specs.Parts.{workspace_size};
 ghost use Rattle.setup.specs.Post.{Finds, Spells, Unspelled};
 
 use index::texts::text_at;
-use spelling::{Pointee, points_at, type_of};
+use spelling::{points_at, type_of};
 use workspace::types::put_type;
 
-// The most types, and a name's number where there is none.
+// The most types.
 const TYPES: usize = 512;
-
-const NONE: usize = 65536;
 
 // Text k.
 pub fn text_numbered(body: &[u8], k: usize) -> &[u8]
@@ -21,16 +19,14 @@ pub fn text_numbered(body: &[u8], k: usize) -> &[u8]
     ensures { result.now ≡ get_or (texts_in body.now) k [] }
 {
     let mut at = 0;
-    let mut i = 0;
-    while i < k {
-        at = at + text_at(body, at).len() + 1;
-        i += 1;
+    for _i in 0..k {
+        at += text_at(body, at).len() + 1;
     }
     text_at(body, at)
 }
 
-// The number of the name that has a text.
-pub fn find_name(names: &[u8], wanted: &[u8]) -> usize
+// The number of the name that has a text. (A loop by lengths: where the next name is only a name's own length says.)
+pub fn find_name(names: &[u8], wanted: &[u8]) -> Option<usize>
     requires { (1 ≤ names_in names.now) × (length names.now < 65536) × (1 ≤ length wanted.now) }
     ensures { Finds names.now wanted.now result }
 {
@@ -38,13 +34,13 @@ pub fn find_name(names: &[u8], wanted: &[u8]) -> usize
     let mut x = 0;
     while at < names.len() {
         let name = text_at(names, at);
-        if layout::same_bytes(name, wanted) {
-            return x;
+        if name == wanted {
+            return Some(x);
         }
         at = at + name.len() + 1;
         x += 1;
     }
-    NONE
+    None
 }
 
 // From a type on, what no text spells.
@@ -53,14 +49,12 @@ fn put_unspelled(ws: &mut [u8], from: usize)
     ensures { Unspelled from 512 ws.old ws.new }
 {
     let ty = type_of(b"");
-    let mut i = from;
-    while i < TYPES {
-        put_type(ws, i, ty, Pointee::NoPointer);
-        i += 1;
+    for i in from..TYPES {
+        put_type(ws, i, ty, None);
     }
 }
 
-// What each type of the body is and points at; past the last one, what no text spells.
+// What each type of the body is and points at; past the last one, what no text spells. (A loop by lengths, as `find_name`.)
 pub fn put_types(types: &[u8], ws: &mut [u8])
     requires { (Texts types.now) × (workspace_size ≤ length ws.old) }
     ensures { Spells types.now 512 ws.old ws.new }

@@ -1,6 +1,5 @@
 // The variables of a head: declared, the parameters set at the start, and those that are not set made unknown at the end.
-ghost use Rattle.std.specs.Prelude.{◌≡◌, ◌≤◌, ◌<◌, length};
-ghost use Rattle.std.proofs.Math.ListN.{get_elem?};
+ghost use Rattle.std.specs.Prelude.{◌≡◌, ◌≤◌, ◌<◌, length, slice_get};
 ghost use Rattle.workspace.specs.Parts.{workspace_size, tables};
 ghost use Rattle.workspace.specs.View.{Changes};
 ghost use Rattle.setup.specs.Heads.{variable_count, parameter_count, Heads, Reads, AllCoded, argument_if, adding};
@@ -8,7 +7,7 @@ ghost use Rattle.setup.specs.Post.{DeclaresSome, Empties, arguments_in, StartsSo
 
 use value::{Ty, Val};
 use workspace::types::{declare, type_of};
-use workspace::variables::{Slot, set_variable, variable};
+use workspace::variables::{set_variable, variable};
 
 // The bytes before the variables, and those of a variable.
 const FIXED: usize = 13;
@@ -43,8 +42,8 @@ fn variable_at(head: &[u8], k: usize) -> Named
 {
     let at = k * VARIABLE + FIXED;
     Named {
-        name: layout::get16(head, at) as usize,
-        ty: layout::get16(head, at + 2) as usize,
+        name: layout::get::<2>(head, at) as usize,
+        ty: layout::get::<2>(head, at + 2) as usize,
     }
 }
 
@@ -54,12 +53,10 @@ pub fn declare_all(head: &[u8], ws: &mut [u8])
     ensures { DeclaresSome head.now (variable_count head.now) ws.old ws.new }
 {
     let count = variable_count(head);
-    let mut k = 0;
-    while k < count {
+    for k in 0..count {
         let v = variable_at(head, k);
         let ty = type_of(ws, v.ty);
         declare(ws, v.name, ty);
-        k += 1;
     }
 }
 
@@ -68,18 +65,18 @@ pub fn empty(ws: &mut [u8])
     requires { workspace_size ≤ length ws.old }
     ensures { Empties ws.old ws.new }
 {
-    layout::clear(&mut ws[workspace::FRAME..workspace::DECLARED]);
+    ws[workspace::FRAME..workspace::DECLARED].fill(0);
 }
 
 // The argument of parameter k, cast to a type; one that is missing is unknown.
 fn argument_as(call: &[u8], k: usize, ty: Ty) -> Val
     requires { 8 ≤ length call.now }
-    ensures { result ≡ argument_if (get_elem? (arguments_in call.now) k) ty }
+    ensures { result ≡ argument_if (slice_get (arguments_in call.now) k) ty }
 {
     if k < files::call::arguments(call) {
-        return Val::known(files::call::argument(call, k), 64, true).cast(ty);
+        return Val::known(files::call::argument(call, k), Ty::I64).cast(ty);
     }
-    Val::unknown(ty.bits, ty.signed)
+    Val::unknown(ty)
 }
 
 // The parameters are set; the last of a name stands.
@@ -88,12 +85,10 @@ pub fn set_parameters(head: &[u8], call: &[u8], ws: &mut [u8])
     ensures { StartsSome head.now call.now (parameter_count head.now) ws.old ws.new }
 {
     let count = parameter_count(head);
-    let mut k = 0;
-    while k < count {
+    for k in 0..count {
         let v = variable_at(head, k);
         let ty = type_of(ws, v.ty);
         set_variable(ws, v.name, argument_as(call, k, ty));
-        k += 1;
     }
 }
 
@@ -104,8 +99,8 @@ fn add_if_unset(ws: &mut [u8], x: usize, ty: Ty)
 {
     let slot = variable(ws, x);
     match slot {
-        Slot::Set(_) => (),
-        Slot::Unset => set_variable(ws, x, Val::unknown(ty.bits, ty.signed)),
+        Some(_) => (),
+        None => set_variable(ws, x, Val::unknown(ty)),
     }
 }
 
@@ -115,11 +110,9 @@ pub fn add_unset(head: &[u8], ws: &mut [u8])
     ensures { EndsSome head.now (variable_count head.now) ws.old ws.new }
 {
     let count = variable_count(head);
-    let mut k = 0;
-    while k < count {
+    for k in 0..count {
         let v = variable_at(head, k);
         let ty = type_of(ws, v.ty);
         add_if_unset(ws, v.name, ty);
-        k += 1;
     }
 }

@@ -1,14 +1,9 @@
 -- The type that a spelling names. A spelling is a list of bytes, and of its bytes only the space is white.
 -- Assumes nothing.
-use Rattle.std.specs.Prelude.{◌≡◌, ℕ, suc, ◌+◌, ◌-◌, ◌≤◌, ◌<◌, Bool, true, false, cond, not, ◌&&◌, ◌||◌, List, [], ◌∷◌, reverse, eqb, leb, length, take, drop}
+use Rattle.std.specs.Prelude.{◌≡◌, ℕ, ◌<◌, Bool, true, false, cond, not, ◌&&◌, ◌||◌, List, [], ◌∷◌, reverse, eqb, ◌==◌, length, take, Option, Some, None}
+use Rattle.std.specs.List.{slice_split, list_any, filter}
 use Prim.Native.String.{String}
 use Rattle.layout.specs.Text.{text, same}
-use Rattle.spelling.specs.declared.Word.{Word}
-use Rattle.spelling.specs.declared.Word.TheVariants.{At, None}
-use Rattle.spelling.specs.declared.Star.{Star}
-use Rattle.spelling.specs.declared.Star.TheVariants.{Before, No}
-use Rattle.spelling.specs.declared.Pointee.{Pointee}
-use Rattle.spelling.specs.declared.Pointee.TheVariants.{Of, NoPointer}
 use Rattle.value.specs.declared.Ty.{Ty}
 use Rattle.value.specs.Value.{type}
 
@@ -18,46 +13,20 @@ use Rattle.value.specs.Value.{type}
 unfoldable pub is : List ℕ → String → Bool
 is w word = same w (text word)
 
-abbrev pub onto : ℕ → List (List ℕ) → List (List ℕ)
-onto c [] = (c ∷ []) ∷ []
-onto c (w ∷ ws) = (c ∷ w) ∷ ws
-
 -- What stands between the spaces. An empty piece is no word.
 abbrev pub pieces : List ℕ → List (List ℕ)
-pieces [] = [] ∷ []
-pieces (c ∷ s) = cond (eqb c 32) ([] ∷ pieces s) (onto c (pieces s))
-
--- How many bytes stand before the first space.
-abbrev pub piece_end : List ℕ → ℕ
-piece_end [] = 0
-piece_end (c ∷ s) = cond (eqb c 32) 0 (suc (piece_end s))
-
--- The pieces from a place on: none past the end.
-abbrev pub pieces_from : List ℕ → ℕ → List (List ℕ)
-pieces_from s i = cond (leb i (length s)) (pieces (drop i s)) []
+pieces s = slice_split (λ c. c == 32) s
 
 -- Whether one of the pieces is `unsigned`.
 abbrev pub any_unsigned : List (List ℕ) → Bool
-any_unsigned [] = false
-any_unsigned (w ∷ ws) = is w "unsigned" || any_unsigned ws
+any_unsigned ws = list_any (λ w. is w "unsigned") ws
 
 -- The words that name a base type: all but the qualifiers and the two words of sign.
 unfoldable pub dropped : List ℕ → Bool
 dropped w = is w "" || is w "const" || is w "volatile" || is w "unsigned" || is w "signed"
 
 abbrev pub base_of : List (List ℕ) → List (List ℕ)
-base_of [] = []
-base_of (w ∷ ws) = cond (dropped w) (base_of ws) (w ∷ base_of ws)
-
--- What is found of the base words from a place on: the first one, and that the others stand after it.
-pub record FoundAt (s : List ℕ) (i start end : ℕ) : Type 0 where
-  pub within : end ≤ length s
-  pub order : start ≤ end
-  pub words : base_of (pieces_from s i) ≡ take (end - start) (drop start s) ∷ base_of (pieces_from s (end + 1))
-
-abbrev pub Found : List ℕ → ℕ → Word → Type 0
-Found s i (At start end) = FoundAt s i start end
-Found s i None = base_of (pieces_from s i) ≡ []
+base_of ws = filter (λ w. not (dropped w)) ws
 
 -- ---- the types
 
@@ -142,10 +111,10 @@ pub record StarAt (s : List ℕ) (k : ℕ) : Type 0 where
   pub ends : ends_star s ≡ true
   pub before : before_star s ≡ take k s
 
-abbrev pub FoundStar : List ℕ → Star → Type 0
-FoundStar s (Before k) = StarAt s k
-FoundStar s No = ends_star s ≡ false
+abbrev pub FoundStar : List ℕ → Option ℕ → Type 0
+FoundStar s (Some k) = StarAt s k
+FoundStar s None = ends_star s ≡ false
 
 -- What a pointer of a spelling points at.
-abbrev pub pointee_of : List ℕ → Pointee
-pointee_of s = cond (ends_star s) (Of (type_of (before_star s))) NoPointer
+abbrev pub pointee_of : List ℕ → Option Ty
+pointee_of s = cond (ends_star s) (Some (type_of (before_star s))) None

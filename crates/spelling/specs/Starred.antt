@@ -1,15 +1,14 @@
 -- The starred cases of document 01, as one table with one theorem.
 -- Assumes nothing.
-use Rattle.std.specs.Prelude.{ℕ, ◌≡◌, refl, true, false, List, [], ◌∷◌}
+use Rattle.std.specs.Prelude.{ℕ, ◌≡◌, refl, true, false, List, [], ◌∷◌, Ok}
 use Prim.Native.String.{String}
 use Rattle.layout.specs.Text.{text}
 use Rattle.value.specs.declared.Ty.{Ty}
 use Rattle.value.specs.declared.Val.{Val}
 use Rattle.value.specs.declared.BinaryOp.{BinaryOp}
 use Rattle.value.specs.declared.BinaryOp.TheVariants.{Add, Div, Mod, Shl, Shr, Less, LogicalAnd}
-use Rattle.value.specs.declared.Answer.TheVariants.{Value}
 use Rattle.value.specs.Value.{type, known_val, unknown_val}
-use Rattle.value.specs.Operators.{binary_of, operands_of, arithmetic, division, order, test, truth, shift}
+use Rattle.value.specs.Operators.{binary_of, operands_of, arithmetic, division, order, compared, truth, shift}
 use Rattle.spelling.specs.Spelling.{type_of, is, dropped, alone, two}
 
 -- (number, width, u or s)
@@ -25,7 +24,7 @@ pub data Case : Type 0 where
   spelling : String → Ty → Case
 
 abbrev pub Holds : Case → Type 0
-Holds (operator l op r v) = binary_of op l r ≡ Value v
+Holds (operator l op r v) = binary_of op l r ≡ Ok v
 Holds (spelling spelled t) = type_of (text spelled) ≡ t
 
 abbrev pub All : List Case → Type 0
@@ -50,5 +49,5 @@ starred =
     ∷ []
 
 pub the_starred_cases : All starred
-unfolding starred binary_of type_of operands_of arithmetic division order test truth shift is dropped alone two
+unfolding starred binary_of type_of operands_of arithmetic division order compared truth shift is dropped alone two
 the_starred_cases = (refl, (refl, (refl, (refl, (refl, (refl, (refl, (refl, (refl, (refl, (refl, (refl, (refl, tt)))))))))))))

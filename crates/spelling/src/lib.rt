@@ -1,231 +1,171 @@
 // The type that a spelling names, in the words of C.
 #![tactic(auto)]
 
-ghost use Rattle.std.specs.Prelude.{◌≡◌, ◌+◌, ◌≤◌, length, drop};
+ghost use Rattle.std.specs.Prelude.{◌≡◌, List, ℕ};
+ghost use Rattle.std.specs.Iterator.{AlwaysYields};
+ghost use Rattle.layout.specs.Text.{same};
 ghost use Rattle.value.specs.Value.{type};
-ghost use Rattle.spelling.specs.Spelling.{piece_end, pieces_from, any_unsigned, dropped, is, is_bool, is_wide_unsigned, is_wide_signed, is_short_int, signed_word, unsigned_word, alone, two, Found, FoundStar, type_of, pointee_of};
+ghost use Rattle.spelling.specs.Spelling.{pieces, any_unsigned, dropped, is, is_bool, is_wide_unsigned, is_wide_signed, is_short_int, signed_word, unsigned_word, alone, two, named, FoundStar, type_of, pointee_of};
 
-use layout::same_bytes;
 use value::Ty;
 
-// A word of a spelling: where it starts and ends.
-#[derive(Clone, Copy)]
-pub enum Word {
-    At(usize, usize),
-    None,
-}
-
-// The place of a last star.
-#[derive(Clone, Copy)]
-pub enum Star {
-    Before(usize),
-    No,
-}
-
-// What a pointer points at.
-#[derive(Clone, Copy)]
-pub enum Pointee {
-    Of(Ty),
-    NoPointer,
-}
-
-fn made(bits: u32, signed: bool) -> Ty
-    ensures { result ≡ type bits signed }
+// Whether a piece is a word. The word is a slice here, since `==` compares no slice with an array.
+fn is(w: &[u8], word: &[u8]) -> bool
+    ensures { result ≡ same w.now word.now }
 {
-    Ty { bits, signed }
-}
-
-// The end of the piece that starts at `from`: the next space, or the end of all.
-pub fn piece_end(s: &[u8], from: usize) -> usize
-    requires { from ≤ length s.now }
-    ensures { result ≡ from + piece_end (drop from s.now) }
-{
-    let mut i = from;
-    while i < s.len() {
-        if s[i] == b' ' {
-            return i;
-        }
-        i += 1;
-    }
-    i
-}
-
-fn is_unsigned(w: &[u8]) -> bool
-    ensures { result ≡ is w.now "unsigned" }
-{
-    same_bytes(w, b"unsigned")
+    w == word
 }
 
 // Whether a piece is no word of a base type.
+#[tactic(auto, unfolding(crate::specs::Spelling::is, crate::specs::Spelling::dropped))]
 pub fn is_dropped(w: &[u8]) -> bool
     ensures { result ≡ dropped w.now }
 {
-    same_bytes(w, b"")
-        | same_bytes(w, b"const")
-        | same_bytes(w, b"volatile")
-        | same_bytes(w, b"unsigned")
-        | same_bytes(w, b"signed")
+    is(w, b"") | is(w, b"const") | is(w, b"volatile") | is(w, b"unsigned") | is(w, b"signed")
 }
 
-// The first word of the base type from a place on.
-pub fn next_word(s: &[u8], from: usize) -> Word
-    ensures { Found s.now from result }
-{
-    let mut i = from;
-    while i <= s.len() {
-        let end = piece_end(s, i);
-        if !is_dropped(&s[i..end]) {
-            return Word::At(i, end);
-        }
-        i = end + 1;
-    }
-    Word::None
-}
-
+// Whether one of the pieces between the spaces is `unsigned`.
 pub fn has_unsigned(s: &[u8]) -> bool
-    ensures { result ≡ any_unsigned (pieces_from s.now 0) }
+    ensures { result ≡ any_unsigned (pieces s.now) }
 {
-    let mut i = 0;
-    while i <= s.len() {
-        let end = piece_end(s, i);
-        if is_unsigned(&s[i..end]) {
-            return true;
-        }
-        i = end + 1;
-    }
-    false
+    s.split(|c| *c == b' ').any(|w| is(w, b"unsigned"))
 }
 
+#[tactic(auto, unfolding(crate::specs::Spelling::is))]
 fn is_bool(w: &[u8]) -> bool
     ensures { result ≡ is_bool w.now }
 {
-    same_bytes(w, b"_Bool") | same_bytes(w, b"bool")
+    is(w, b"_Bool") | is(w, b"bool")
 }
 
+#[tactic(auto, unfolding(crate::specs::Spelling::is))]
 fn is_wide_unsigned(w: &[u8]) -> bool
     ensures { result ≡ is_wide_unsigned w.now }
 {
-    same_bytes(w, b"size_t") | same_bytes(w, b"uintptr_t") | same_bytes(w, b"uint64_t")
+    is(w, b"size_t") | is(w, b"uintptr_t") | is(w, b"uint64_t")
 }
 
+#[tactic(auto, unfolding(crate::specs::Spelling::is))]
 fn is_wide_signed(w: &[u8]) -> bool
     ensures { result ≡ is_wide_signed w.now }
 {
-    same_bytes(w, b"int64_t") | same_bytes(w, b"intptr_t") | same_bytes(w, b"ssize_t")
+    is(w, b"int64_t") | is(w, b"intptr_t") | is(w, b"ssize_t")
 }
 
+#[tactic(auto, unfolding(crate::specs::Spelling::is))]
 fn is_short_int(v: &[u8], w: &[u8]) -> bool
     ensures { result ≡ is_short_int v.now w.now }
 {
-    same_bytes(v, b"short") & same_bytes(w, b"int")
+    is(v, b"short") & is(w, b"int")
 }
 
 // A base type of one word: a signed type of a fixed width, or any other word.
+#[tactic(auto, using(value::proofs::Pick::held, value::proofs::Pick::failed), unfolding(crate::specs::Spelling::is, crate::specs::Spelling::signed_word))]
 fn type_of_signed(w: &[u8], unsigned: bool) -> Ty
     ensures { result ≡ signed_word unsigned w.now }
 {
-    if same_bytes(w, b"int8_t") {
-        made(8, true)
-    } else if same_bytes(w, b"int16_t") {
-        made(16, true)
-    } else if same_bytes(w, b"int32_t") {
-        made(32, true)
+    if is(w, b"int8_t") {
+        Ty::new(8, true)
+    } else if is(w, b"int16_t") {
+        Ty::new(16, true)
+    } else if is(w, b"int32_t") {
+        Ty::new(32, true)
     } else if is_wide_signed(w) {
-        made(64, true)
+        Ty::I64
     } else {
-        made(64, !unsigned)
+        Ty::new(64, !unsigned)
     }
 }
 
 // A base type of one word: an unsigned type of a fixed width, or what is left.
+#[tactic(auto, using(value::proofs::Pick::held, value::proofs::Pick::failed), unfolding(crate::specs::Spelling::is, crate::specs::Spelling::unsigned_word))]
 fn type_of_unsigned(w: &[u8], unsigned: bool) -> Ty
     ensures { result ≡ unsigned_word unsigned w.now }
 {
-    if same_bytes(w, b"uint8_t") {
-        made(8, false)
-    } else if same_bytes(w, b"uint16_t") {
-        made(16, false)
-    } else if same_bytes(w, b"uint32_t") {
-        made(32, false)
+    if is(w, b"uint8_t") {
+        Ty::U8
+    } else if is(w, b"uint16_t") {
+        Ty::new(16, false)
+    } else if is(w, b"uint32_t") {
+        Ty::new(32, false)
     } else if is_wide_unsigned(w) {
-        made(64, false)
+        Ty::U64
     } else {
         type_of_signed(w, unsigned)
     }
 }
 
 // The base type of one word: a keyword of C, or what is left.
+#[tactic(auto, using(value::proofs::Pick::held, value::proofs::Pick::failed), unfolding(crate::specs::Spelling::is, crate::specs::Spelling::alone))]
 fn type_of_word(w: &[u8], unsigned: bool) -> Ty
     ensures { result ≡ alone unsigned w.now }
 {
     if is_bool(w) {
-        made(8, false)
-    } else if same_bytes(w, b"char") {
-        made(8, !unsigned)
-    } else if same_bytes(w, b"short") {
-        made(16, !unsigned)
-    } else if same_bytes(w, b"int") {
-        made(32, !unsigned)
+        Ty::U8
+    } else if is(w, b"char") {
+        Ty::new(8, !unsigned)
+    } else if is(w, b"short") {
+        Ty::new(16, !unsigned)
+    } else if is(w, b"int") {
+        Ty::new(32, !unsigned)
     } else {
         type_of_unsigned(w, unsigned)
     }
 }
 
 // The base type of two words.
+#[tactic(auto, using(value::proofs::Pick::held, value::proofs::Pick::failed), unfolding(crate::specs::Spelling::two))]
 fn type_of_two(v: &[u8], w: &[u8], unsigned: bool) -> Ty
     ensures { result ≡ two unsigned v.now w.now }
 {
     if is_short_int(v, w) {
-        made(16, !unsigned)
+        Ty::new(16, !unsigned)
     } else {
-        made(64, !unsigned)
+        Ty::new(64, !unsigned)
+    }
+}
+
+// A base type by its words: none is `int`.
+fn named<'a, W: Iterator<Item = &'a [u8]>>(mut words: W, unsigned: bool) -> Ty
+    requires { W.can_next words }
+    ensures { (ws : List (List ℕ)) → AlwaysYields W.next_gives (λ w. w.now) words ws → result ≡ named unsigned ws }
+{
+    let Some(v) = words.next() else {
+        return Ty::new(32, !unsigned);
+    };
+    let Some(w) = words.next() else {
+        return type_of_word(v, unsigned);
+    };
+    if words.next().is_some() {
+        Ty::new(64, !unsigned)
+    } else {
+        type_of_two(v, w, unsigned)
     }
 }
 
 // The last star, if only spaces follow it.
-pub fn last_star(s: &[u8]) -> Star
+pub fn last_star(s: &[u8]) -> Option<usize>
     ensures { FoundStar s.now result }
 {
-    let mut i = s.len();
-    while 0 < i {
-        let at = i - 1;
-        if s[at] == b'*' {
-            return Star::Before(at);
-        }
-        if s[at] != b' ' {
-            return Star::No;
-        }
-        i = at;
-    }
-    Star::No
+    let last = s.iter().rposition(|c| *c != b' ')?;
+    if s[last] == b'*' { Some(last) } else { None }
 }
 
 // The type that a spelling names.
 pub fn type_of(s: &[u8]) -> Ty
     ensures { result ≡ type_of s.now }
 {
-    let Star::No = last_star(s) else {
-        return made(64, false);
-    };
-    let unsigned = has_unsigned(s);
-    let Word::At(a, b) = next_word(s, 0) else {
-        return made(32, !unsigned);
-    };
-    let Word::At(c, d) = next_word(s, b + 1) else {
-        return type_of_word(&s[a..b], unsigned);
-    };
-    let Word::None = next_word(s, d + 1) else {
-        return made(64, !unsigned);
-    };
-    type_of_two(&s[a..b], &s[c..d], unsigned)
+    if last_star(s).is_some() {
+        return Ty::U64;
+    }
+    let words = s.split(|c| *c == b' ').filter(|w| !is_dropped(w));
+    named(words, has_unsigned(s))
 }
 
 // What a spelling points at, where it is a pointer's.
-pub fn points_at(s: &[u8]) -> Pointee
+pub fn points_at(s: &[u8]) -> Option<Ty>
     ensures { result ≡ pointee_of s.now }
 {
-    let Star::Before(at) = last_star(s) else {
-        return Pointee::NoPointer;
-    };
-    Pointee::Of(type_of(&s[..at]))
+    let at = last_star(s)?;
+    Some(type_of(&s[..at]))
 }

@@ -2,7 +2,7 @@
 use mathlib.Core.Path.{◌≡◌, refl, sym, ap, ◌∙◌}
 use mathlib.Core.Bool.{Bool, true, false}
 use mathlib.Core.List.{List}
-use mathlib.Core.Option.{Option, none, some}
+use Rattle.std.specs.Prelude.{Option, None, Some, Result, Ok, Err, ok_or}
 use Prim.Native.Nat.{ℕ, zero, suc, ◌+◌, ◌-◌, ◌*◌, ◌≤◌, ◌<◌}
 use native.Mathlib.Nat.{add-zero, add-suc, suc-add}
 use native.Mathlib.Omega.{arith}
@@ -11,33 +11,28 @@ use lib.ListN.{length}
 use Rattle.value.specs.declared.Val.{Val}
 use Rattle.layout.specs.Number.{number_at}
 use Rattle.files.specs.Program.{Case, case_of, Statement, listed, statement_at}
-use Rattle.definition.specs.Act.{End, Why, branch_unknown, switch_unknown, no_case, gave, stopped}
+use Rattle.definition.specs.Act.{End, branch_unknown, switch_unknown, no_case, gave, stopped}
+use Rattle.definition.specs.Act as act
 use Rattle.definition.specs.Statements as statements
 use Rattle.definition.specs.Walk as walk
-use Rattle.index.specs.declared.Maybe.{Maybe}
-use Rattle.index.specs.declared.Maybe.TheVariants.{Known, Nothing}
 use Rattle.index.specs.declared.blocks.Place.{Place}
 use Rattle.index.specs.declared.blocks.Statement as index
-use Rattle.index.specs.Answers.{maybe_of, option_of}
 use Rattle.index.specs.Blocks.{States}
-use Rattle.index.proofs.BlockFields.{option_maybe}
 use Rattle.hosting.specs.declared.Short.{Short}
 use Rattle.hosting.specs.declared.Stop.TheVariants.{Unknown}
-use Rattle.hosting.specs.declared.Outcome.{Outcome}
-use Rattle.hosting.specs.declared.Outcome.TheVariants.{Is, Ends}
+use Rattle.hosting.specs.declared.Short.TheVariants.{Why}
+use Rattle.stream.specs.declared.Reason.TheVariants.{NoCase}
+use Rattle.std.specs.declared.ops.ControlFlow.TheVariants.{Continue, Break}
 use Rattle.hosting.specs.Ending.{Ending, ended, short, short_of, end_of}
 use Rattle.hosting.specs.Walking.{unknown_end}
-use Rattle.statements.specs.declared.terminators.Next.TheVariants.{Stops, Goes}
-use Rattle.statements.specs.declared.terminators.Lead.{Lead}
-use Rattle.statements.specs.declared.terminators.Lead.TheVariants.{To, Fails}
-use Rattle.statements.specs.Endings.{end_end, bind_end, tried_end, lead_end, stops_end}
+use Rattle.statements.specs.Endings.{end_end, bind_end, tried_end, stops_end}
 use Rattle.statements.specs.Placing.{Dealt}
 use Rattle.statements.specs.Post.{branches, switches, statements_at, LastIs, AddressIs, Leads}
 
 -- ---- a Branch's value
 
 module _ (root taken next : ℕ) (v : Val) where
-  pub branch_unknown_lem : v.known ≡ false → short (some (branch_unknown root)) ≡ end_end (branches root taken next v)
+  pub branch_unknown_lem : v.known ≡ false → short (Some (branch_unknown root)) ≡ end_end (branches root taken next v)
   branch_unknown_lem h = rw h
 
   pub branch_zero : v.known ≡ true → v.number ≡ 0 → ended next ≡ end_end (branches root taken next v)
@@ -49,36 +44,37 @@ module _ (root taken next : ℕ) (v : Val) where
 -- ---- a Switch's value
 
 module _ (root : ℕ) (cases : List Case) (v : Val) where
-  pub switch_unknown_lem : v.known ≡ false → short (some (switch_unknown root)) ≡ end_end (switches root cases v)
+  pub switch_unknown_lem : v.known ≡ false → short (Some (switch_unknown root)) ≡ end_end (switches root cases v)
   switch_unknown_lem h = rw h
 
-  module _ (h : v.known ≡ true) {n : ℕ} (e : n ≡ walk.extended v) {m : Maybe} (read : m ≡ maybe_of (case_of cases n)) where
+  module _ (h : v.known ≡ true) {n : ℕ} (e : n ≡ walk.extended v) {m : Option ℕ} (read : m ≡ case_of cases n) where
     -- the case that was read
-    case_is : {a : Maybe} → m ≡ a → case_of cases n ≡ option_of a
-    case_is k = sym (option_maybe (case_of cases n)) ∙ ap option_of (sym read ∙ k)
+    case_is : {a : Option ℕ} → m ≡ a → case_of cases n ≡ a
+    case_is k = sym read ∙ k
 
-    by_case : (o : Option ℕ) → case_of cases n ≡ o → end_end (switches root cases v) ≡ end_end (elim o [ none ↦ stopped (no_case (walk.extended v)) | some b ↦ gave b ])
+    by_case : (o : Option ℕ) → case_of cases n ≡ o → end_end (switches root cases v) ≡ end_end (elim o [ None ↦ stopped (no_case (walk.extended v)) | Some b ↦ gave b ])
     by_case o q =
         ap (λ (b : Bool). end_end {A = ℕ} (elim b [
           | false ↦ stopped (switch_unknown root)
-          | true ↦ elim (case_of cases (walk.extended v)) [ none ↦ stopped (no_case (walk.extended v)) | some b ↦ gave b ]
+          | true ↦ elim (case_of cases (walk.extended v)) [ None ↦ stopped (no_case (walk.extended v)) | Some b ↦ gave b ]
         ])) h
-        ∙ ap (λ (z : Option ℕ). end_end {A = ℕ} (elim z [ none ↦ stopped (no_case (walk.extended v)) | some b ↦ gave b ])) (ap (case_of cases) (sym e) ∙ q)
+        ∙ ap (λ (z : Option ℕ). end_end {A = ℕ} (elim z [ None ↦ stopped (no_case (walk.extended v)) | Some b ↦ gave b ])) (ap (case_of cases) (sym e) ∙ q)
 
-    pub switch_case : {b : ℕ} → m ≡ Known b → ended b ≡ end_end (switches root cases v)
-    switch_case {b} k = sym (by_case (some b) (case_is k))
-
-    pub switch_none : m ≡ Nothing → short (some (no_case n)) ≡ end_end (switches root cases v)
-    switch_none k = ap (λ (z : ℕ). short (some (no_case z))) e ∙ sym (by_case none (case_is k))
+    pub switch_told : {r : Result ℕ Short} → r ≡ ok_or m (Why NoCase n) → end_of r ≡ end_end (switches root cases v)
+    switch_told {r} q = go m refl
+      where
+        go : (a : Option ℕ) → m ≡ a → end_of r ≡ end_end (switches root cases v)
+        go None k = ap end_of (q ∙ ap (λ (z : Option ℕ). ok_or z (Why NoCase n)) k) ∙ ap (λ (z : ℕ). short (Some (no_case z))) e ∙ sym (by_case None (case_is k))
+        go (Some b) k = ap end_of (q ∙ ap (λ (z : Option ℕ). ok_or z (Why NoCase n)) k) ∙ sym (by_case (Some b) (case_is k))
 
 -- ---- with the evaluation's end
 
-module _ (k : Val → End ℕ) {e : Outcome} where
-  pub led_is : {v : Val} {l : Ending ℕ} → e ≡ Is v → l ≡ end_end (k v) → l ≡ bind_end k (end_of e)
-  led_is h q = q ∙ sym (ap (λ (o : Outcome). bind_end k (end_of o)) h)
+module _ (k : Val → End ℕ) {e : Result Val Short} where
+  pub led_is : {v : Val} {l : Ending ℕ} → e ≡ Ok v → l ≡ end_end (k v) → l ≡ bind_end k (end_of e)
+  led_is h q = q ∙ sym (ap (λ (o : Result Val Short). bind_end k (end_of o)) h)
 
-  pub led_ends : {s : Short} → e ≡ Ends s → lead_end (Fails s) ≡ bind_end k (end_of e)
-  led_ends h = sym (ap (λ (o : Outcome). bind_end k (end_of o)) h)
+  pub led_ends : {s : Short} → e ≡ Err s → short (short_of s) ≡ bind_end k (end_of e)
+  led_ends h = sym (ap (λ (o : Result Val Short). bind_end k (end_of o)) h)
 
 -- ---- the last statement's address
 
@@ -88,7 +84,7 @@ last_listed f i zero = ap (λ (j : ℕ). (f j).address) (sym (add-zero i))
 last_listed f i (suc n) = last_listed f (suc i) n ∙ ap (λ (j : ℕ). (f j).address) (suc-add i n ∙ sym (add-suc i n))
 
 module _ {ss blocks : List ℕ} {p : Place} {n : ℕ} (count : (n ≡ number_at blocks p.start 2) × (n < 65536)) where
-  pub last_none : n ≡ 0 → LastIs ss blocks p Nothing
+  pub last_none : n ≡ 0 → LastIs ss blocks p None
   unfolding listed walk.last_address
   last_none z = record { is = λ nodes. ap (λ (k : ℕ). walk.last_address (listed (statement_at nodes ss) p.first k)) (sym z ∙ count.0) }
 
@@ -103,28 +99,28 @@ module _ {ss blocks : List ℕ} {p : Place} {n : ℕ} (count : (n ≡ number_at 
   pub last_inside : Dealt ss blocks p → (n ≡ 0 → ⊥) → (p.first + (n - 1)) * 13 + 13 ≤ length ss
   last_inside d ne = omega (arith, d.dealt, count.0)
 
-pub address_own : {ss blocks : List ℕ} {p : Place} {address : Maybe} {a : ℕ} → address ≡ Known a → AddressIs ss blocks p address (Known a)
-address_own {ss} {blocks} {p} e = record { is = λ nodes. ap (λ (m : Maybe). walk.address_or (option_of m) (statements_at nodes ss blocks p)) (sym e) }
+pub address_own : {ss blocks : List ℕ} {p : Place} {address : Option ℕ} {a : ℕ} → address ≡ Some a → AddressIs ss blocks p address (Some a)
+address_own {ss} {blocks} {p} e = record { is = λ nodes. ap (λ (m : Option ℕ). walk.address_or m (statements_at nodes ss blocks p)) (sym e) }
 
-pub address_last : {ss blocks : List ℕ} {p : Place} {address r : Maybe} → address ≡ Nothing → LastIs ss blocks p r → AddressIs ss blocks p address r
-address_last {ss} {blocks} {p} e l = record { is = λ nodes. l.is nodes ∙ ap (λ (m : Maybe). walk.address_or (option_of m) (statements_at nodes ss blocks p)) (sym e) }
+pub address_last : {ss blocks : List ℕ} {p : Place} {address r : Option ℕ} → address ≡ None → LastIs ss blocks p r → AddressIs ss blocks p address r
+address_last {ss} {blocks} {p} e l = record { is = λ nodes. l.is nodes ∙ ap (λ (m : Option ℕ). walk.address_or m (statements_at nodes ss blocks p)) (sym e) }
 
 -- ---- what comes next
 
-pub leads_to : {ss blocks : List ℕ} {p : Place} {address : Maybe} {l : Lead} {b : ℕ} → l ≡ To b → Leads ss blocks p address l (Goes (record { block = b; statement = 0; inside = false }))
+pub leads_to : {ss blocks : List ℕ} {p : Place} {address : Option ℕ} {l : Result ℕ Short} {b : ℕ} → l ≡ Ok b → Leads ss blocks p address l (Continue (record { block = b; statement = 0; inside = false }))
 leads_to {ss} {blocks} {p} {address} h = record {
-  is = λ nodes limit. ap (λ (z : Lead). tried_end (walk.left_to (walk.address_or (option_of address) (statements_at nodes ss blocks p))) (lead_end z)) (sym h);
+  is = λ nodes limit. ap (λ (z : Result ℕ Short). tried_end (walk.left_to (walk.address_or address (statements_at nodes ss blocks p))) (end_of z)) (sym h);
   outside = refl;
 }
 
-stop_led : (at at' : Option ℕ) → at ≡ at' → (y : Option Why) → stops_end (unknown_end at y) ≡ tried_end (walk.left_to at') (short y)
-stop_led at at' e none = refl
-stop_led at at' e (some y) = ap (λ (z : Option ℕ). ended (walk.stops (statements.Unknown z y))) e
+stop_led : (at at' : Option ℕ) → at ≡ at' → (y : Option act.Why) → stops_end (unknown_end at y) ≡ tried_end (walk.left_to at') (short y)
+stop_led at at' e None = refl
+stop_led at at' e (Some y) = ap (λ (z : Option ℕ). ended (walk.stops (statements.Unknown z y))) e
 
-pub leads_short : {ss blocks : List ℕ} {p : Place} {address m : Maybe} {l : Lead} {s : Short} → l ≡ Fails s → AddressIs ss blocks p address m → Leads ss blocks p address l (Stops (Unknown m s))
+pub leads_short : {ss blocks : List ℕ} {p : Place} {address m : Option ℕ} {l : Result ℕ Short} {s : Short} → l ≡ Err s → AddressIs ss blocks p address m → Leads ss blocks p address l (Break (Unknown m s))
 leads_short {ss} {blocks} {p} {address} {m} {s = s} h a = record {
   is = λ nodes limit.
-      stop_led (option_of m) (walk.address_or (option_of address) (statements_at nodes ss blocks p)) (a.is nodes) (short_of s)
-      ∙ ap (λ (z : Lead). tried_end (walk.left_to (walk.address_or (option_of address) (statements_at nodes ss blocks p))) (lead_end z)) (sym h);
+      stop_led m (walk.address_or address (statements_at nodes ss blocks p)) (a.is nodes) (short_of s)
+      ∙ ap (λ (z : Result ℕ Short). tried_end (walk.left_to (walk.address_or address (statements_at nodes ss blocks p))) (end_of z)) (sym h);
   outside = tt;
 }

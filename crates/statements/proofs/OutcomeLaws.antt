@@ -2,26 +2,23 @@
 use mathlib.Core.Path.{◌≡◌, refl, sym, ap, ◌∙◌, subst}
 use mathlib.Core.Bool.{Bool, true, false}
 use mathlib.Core.List.{List}
-use mathlib.Core.Option.{Option, none, some}
+use Rattle.std.specs.Prelude.{Option, None, Some, Result, Ok, Err}
 use Prim.Native.Nat.{ℕ, ◌+◌, ◌*◌, ◌≤◌, ◌<◌}
 use native.Mathlib.Omega.{arith}
 use lib.ListN.{length}
+use Rattle.value.specs.declared.Ty.{Ty}
 use Rattle.value.specs.declared.Val.{Val}
 use Rattle.layout.specs.Text.{text}
 use Rattle.files.specs.Nodes.{kind_of, span_of, value_of}
 use Rattle.files.specs.Program.{Return, Program, Node, Tree, tree, Trees, node_of}
-use Rattle.definition.specs.Act.{Act, done, gave, no_note, Why, ◌>>=◌}
+use Rattle.definition.specs.Act.{Act, done, End, gave, no_note, Why, ◌>>=◌}
 use Rattle.definition.specs.Term.{Term, no_terms, more_terms, eval, node, kids, kid, is}
 use Rattle.definition.specs.Evaluate.{Env, did, look, looks, execute}
 use Rattle.definition.specs.Statements.{Outcome, Returned, NoReturn, Halted, returned_as, returning, is_named, is_halted, outcome, outcome_of}
 use Rattle.hosting.specs.declared.Facts.{Facts}
-use Rattle.hosting.specs.declared.Returns.{Returns}
 use Rattle.hosting.specs.declared.Short.{Short}
 use Rattle.hosting.specs.declared.Did.{Did}
-use Rattle.hosting.specs.declared.Outcome as outcome-is
-use Rattle.hosting.specs.declared.Outcome.TheVariants.{Is, Ends}
-use Rattle.hosting.specs.declared.Done.{Done}
-use Rattle.hosting.specs.declared.Done.TheVariants as done-is
+use Rattle.hosting.specs.declared.Stop.{Stop}
 use Rattle.hosting.specs.Stands.{Stands, stands, Shape, a_leave, a_give, Fine}
 use Rattle.hosting.specs.Scene.{given}
 use Rattle.hosting.specs.Routine.{returns_as}
@@ -32,44 +29,31 @@ use Rattle.operations.specs.Going.{ReadyIn, Goes}
 use Rattle.operations.proofs.Going.{acts, told, done_goes, remains}
 use Rattle.machine.specs.Post.{Evals, Executes}
 use Rattle.statements.specs.declared.statements.Acts.{Acts}
-use Rattle.statements.specs.declared.statements.Acts.TheVariants.{Does, Leaves, Gives as Giving, Strays, Halts as Halting, Fails}
-use Rattle.statements.specs.declared.statements.Halt.{Halt}
+use Rattle.statements.specs.declared.statements.Acts.TheVariants.{Does, Leaves, Gives as Giving, Strays, Halts as Halting}
 use Rattle.statements.specs.declared.statements.Sort.{Sort}
 use Rattle.statements.specs.declared.statements.Sort.TheVariants.{Gives, Unreachable, Halts, Plain}
 use Rattle.statements.specs.Endings.{bind_end, tried_end, acts_end, some_end, HaltIs}
 use Rattle.statements.specs.Sorts.{sort_of, Sorted}
-use Rattle.statements.specs.Post.{Gave, Executing, Acting}
+use Rattle.statements.specs.Post.{Acting}
 use Rattle.statements.proofs.SortLaws.{sort_gives, first_kid}
 use Rattle.statements.proofs.Running.{then_end}
 
 -- ---- results
 
-pub halt_is : {at : Option ℕ} {o o' : Acts} {r : Halt} → o ≡ o' → HaltIs at o' r → HaltIs at o r
-halt_is {at} {r = r} e h = subst (λ (z : Acts). HaltIs at z r) (sym e) h
+pub halt_is : {at : Option ℕ} {o o' : Result Acts Short} {r : Option Stop} → o ≡ o' → HaltIs at o' r → HaltIs at o r
+halt_is {at} {r = r} e h = subst (λ (z : Result Acts Short). HaltIs at z r) (sym e) h
 
 pub halt_unknown : (at : Option ℕ) (y : Option Why) → some_end (unknown_end at y) ≡ tried_end (λ e. (outcome_of at e).1) (short y)
-halt_unknown at none = refl
-halt_unknown at (some y) = refl
-
-pub gave_value : {returns : Returns} {e : outcome-is.Outcome} {v u : Val} → e ≡ Is v → u ≡ returns_as returns v → Gave returns e (Giving u)
-gave_value {returns} h g = record { is = λ at. ap (λ (z : Val). ended (did no_note, some (Returned (some z)))) g ∙ sym (ap (λ o. bind_end (λ v. gave (did no_note, some (Returned (some (returns_as returns v))))) (end_of o)) h) }
-
-pub gave_short : {returns : Returns} {e : outcome-is.Outcome} {s : Short} → e ≡ Ends s → Gave returns e (Fails s)
-gave_short {returns} h = record { is = λ at. sym (ap (λ o. bind_end (λ v. gave (did no_note, some (Returned (some (returns_as returns v))))) (end_of o)) h) }
-
-pub done_does : {q : Done} {d : Did} → q ≡ done-is.Does d → Executing q (Does d)
-done_does h = record { is = λ at. sym (ap (λ o. bind_end (λ d. gave (d, none)) (done_of o)) h) }
-
-pub done_fails : {q : Done} {s : Short} → q ≡ done-is.Fails s → Executing q (Fails s)
-done_fails h = record { is = λ at. sym (ap (λ o. bind_end (λ d. gave (d, none)) (done_of o)) h) }
+halt_unknown at None = refl
+halt_unknown at (Some y) = refl
 
 -- ---- the definition's `outcome` by what the root is
 
 abbrev by_sort : Program → Env → Option ℕ → Term → Sort → Act Outcome
 by_sort P E at t Gives = returning P (kids t)
-by_sort P E at t Unreachable = done (did no_note, some (NoReturn at))
-by_sort P E at t Halts = done (did no_note, some (Halted at (node (kid 0 (kids t))).value))
-by_sort P E at t Plain = execute E t >>= λ d. done (d, none)
+by_sort P E at t Unreachable = done (did no_note, Some (NoReturn at))
+by_sort P E at t Halts = done (did no_note, Some (Halted at (node (kid 0 (kids t))).value))
+by_sort P E at t Plain = execute E t >>= λ d. done (d, None)
 
 outcome_sort : (P : Program) (E : Env) (at : Option ℕ) (t : Term) → outcome P E at t ≡ by_sort P E at t (sort_of P t)
 unfolding outcome
@@ -78,8 +62,8 @@ outcome_sort P E at t = go (is Return t) (is_named P t (text "__builtin_unreacha
     go : (a b c : Bool) → elim a [
       | true ↦ returning P (kids t)
       | false ↦ elim b [
-        | true ↦ done (did no_note, some (NoReturn at))
-        | false ↦ elim c [ true ↦ done (did no_note, some (Halted at (node (kid 0 (kids t))).value)) | false ↦ execute E t >>= λ d. done (d, none) ]
+        | true ↦ done (did no_note, Some (NoReturn at))
+        | false ↦ elim c [ true ↦ done (did no_note, Some (Halted at (node (kid 0 (kids t))).value)) | false ↦ execute E t >>= λ d. done (d, None) ]
       ]
     ] ≡ by_sort P E at t (elim a [ true ↦ Gives | false ↦ elim b [ true ↦ Unreachable | false ↦ elim c [ true ↦ Halts | false ↦ Plain ] ] ])
     go true b c = refl
@@ -128,56 +112,77 @@ halts_room so e = room (sorted_as e so).here.0
 
 module _ {b symbols regions : List ℕ} {f : Facts} {n : ℕ} {w o : List ℕ} (ready : ReadyIn (given b symbols regions) w) where
   -- what is known without a run
-  at_once : {q : Acts} {s : Sort} (v : Option ℕ → Outcome) → ((at : Option ℕ) → acts_end at q ≡ ended (v at)) → Sorted b f n s
+  at_once : {q : Result Acts Short} {s : Sort} (v : Option ℕ → Outcome) → ((at : Option ℕ) → acts_end at q ≡ ended (v at)) → Sorted b f n s
       → ((P : Program) (E : Env) (at : Option ℕ) (t : Tree) → Stands b n t → by_sort P E at (look E t) s ≡ done (v at)) → Acting b symbols regions f n w o q w o
   at_once {q} v e so d = record {
     goes = λ P named at t h.
         acts (λ i x m. outcome_sort P x.env at (look x.env t) ∙ ap (by_sort P x.env at (look x.env t)) (so.is P named x.env t h) ∙ d P x.env at t h) (run at);
-    remains = remains (run none) ready;
+    remains = remains (run None) ready;
   }
     where
       run : (at : Option ℕ) → Goes (given b symbols regions) (λ x. done (v at)) w o (acts_end at q) w o
       run at = told (e at) (done_goes (λ x. v at) (λ i x m. refl))
 
-  pub acting_strays : {s : Sort} → Sorted b f n s → s ≡ Unreachable → Acting b symbols regions f n w o Strays w o
-  acting_strays so q = at_once (λ at. (did no_note, some (NoReturn at))) (λ at. refl) (sorted_as q so) (λ P E at t h. refl)
+  pub acting_strays : {s : Sort} → Sorted b f n s → s ≡ Unreachable → Acting b symbols regions f n w o (Ok Strays) w o
+  acting_strays so q = at_once (λ at. (did no_note, Some (NoReturn at))) (λ at. refl) (sorted_as q so) (λ P E at t h. refl)
 
-  pub acting_halts : {v : ℕ} {s : Sort} → Sorted b f n s → s ≡ Halts → v ≡ value_of b (n + 1) → Acting b symbols regions f n w o (Halting v) w o
+  pub acting_halts : {v : ℕ} {s : Sort} → Sorted b f n s → s ≡ Halts → v ≡ value_of b (n + 1) → Acting b symbols regions f n w o (Ok (Halting v)) w o
   acting_halts {v} so' q e =
       let so = sorted_as q so' in
-      at_once (λ at. (did no_note, some (Halted at v))) (λ at. refl) so
-      (λ P E at t h. ap (λ (d : Node). done (did no_note, some (Halted at d.value))) (first_kid E so.here.1 so.here.0 (λ z. omega (arith, z, so.here.2)) h)
-      ∙ ap (λ (z : ℕ). done (did no_note, some (Halted at z))) (sym e))
+      at_once (λ at. (did no_note, Some (Halted at v))) (λ at. refl) so
+      (λ P E at t h. ap (λ (d : Node). done (did no_note, Some (Halted at d.value))) (first_kid E so.here.1 so.here.0 (λ z. omega (arith, z, so.here.2)) h)
+      ∙ ap (λ (z : ℕ). done (did no_note, Some (Halted at z))) (sym e))
 
-  pub acting_leaves : {s : ℕ} → kind_of b n ≡ 16 → (s ≡ span_of b n) × (s < 4294967296) → s ≡ 1 → Acting b symbols regions f n w o Leaves w o
+  pub acting_leaves : {s : ℕ} → kind_of b n ≡ 16 → (s ≡ span_of b n) × (s < 4294967296) → s ≡ 1 → Acting b symbols regions f n w o (Ok Leaves) w o
   unfolding returning
-  acting_leaves k e z = at_once (λ at. (did no_note, some (Returned none))) (λ at. refl) (sort_gives refl k) (λ P E at t h. ap (returning P) (returns_none E k (sym e.0 ∙ z) h))
+  acting_leaves k e z = at_once (λ at. (did no_note, Some (Returned None))) (λ at. refl) (sort_gives refl k) (λ P E at t h. ap (returning P) (returns_none E k (sym e.0 ∙ z) h))
+
+-- a value is returned
+abbrev gave_end : Option Ty → Val → End Outcome
+gave_end returns v = gave (did no_note, Some (Returned (Some (returns_as returns v))))
 
 module _ {b symbols regions : List ℕ} {f : Facts} {n : ℕ} {w₀ o₀ w o : List ℕ} (ready : ReadyIn (given b symbols regions) w₀) where
-  pub acting_plain : {q : Done} {r : Acts} {s : Sort} → Fine b n → Sorted b f n s → s ≡ Plain → Executes b symbols regions n w₀ o₀ q w o → Executing q r → Acting b symbols regions f n w₀ o₀ r w o
+  -- something is executed
+  acting_plain : {q : Result Did Short} {r : Result Acts Short} {s : Sort} → Fine b n → Sorted b f n s → s ≡ Plain → Executes b symbols regions n w₀ o₀ q w o
+      → ((at : Option ℕ) → acts_end at r ≡ bind_end (λ d. gave (d, None)) (done_of q)) → Acting b symbols regions f n w₀ o₀ r w o
   acting_plain {q} {r} fn so p x e = record {
     goes = λ P named at t h.
         acts (λ i x m. outcome_sort P x.env at (look x.env t) ∙ ap (by_sort P x.env at (look x.env t)) ((sorted_as p so).is P named x.env t h)) (run at t h);
-    remains = remains (run none fn.tree fn.spells) ready;
+    remains = remains (run None fn.tree fn.spells) ready;
   }
     where
-      run : (at : Option ℕ) (t : Tree) → Stands b n t → Goes (given b symbols regions) (λ x. execute x.env (look x.env t) >>= λ d. done (d, none)) w₀ o₀ (acts_end at r) w o
-      run at t h = told (e.is at) (then_end (λ d. done (d, none)) (λ d. gave (d, none)) (λ d. refl) (done_of q) (x.goes t h))
+      run : (at : Option ℕ) (t : Tree) → Stands b n t → Goes (given b symbols regions) (λ x. execute x.env (look x.env t) >>= λ d. done (d, None)) w₀ o₀ (acts_end at r) w o
+      run at t h = told (e at) (then_end (λ d. done (d, None)) (λ d. gave (d, None)) (λ d. refl) (done_of q) (x.goes t h))
 
-  pub acting_gives : {e : outcome-is.Outcome} {r : Acts} {s : ℕ} → kind_of b n ≡ 16 → Fine b n → (s ≡ span_of b n) × (s < 4294967296) → (s ≡ 1 → ⊥) → Evals b symbols regions (n + 1) w₀ o₀ e w o
-      → Gave f.returns e r → Acting b symbols regions f n w₀ o₀ r w o
+  pub acting_does : {q : Result Did Short} {d : Did} {s : Sort} → Fine b n → Sorted b f n s → s ≡ Plain → Executes b symbols regions n w₀ o₀ q w o → q ≡ Ok d → Acting b symbols regions f n w₀ o₀ (Ok (Does d)) w o
+  acting_does fn so p x e = acting_plain fn so p x (λ at. sym (ap (λ z. bind_end (λ d. gave (d, None)) (done_of z)) e))
+
+  pub acting_fails : {q : Result Did Short} {y : Short} {s : Sort} → Fine b n → Sorted b f n s → s ≡ Plain → Executes b symbols regions n w₀ o₀ q w o → q ≡ Err y → Acting b symbols regions f n w₀ o₀ (Err y) w o
+  acting_fails fn so p x e = acting_plain fn so p x (λ at. sym (ap (λ z. bind_end (λ d. gave (d, None)) (done_of z)) e))
+
+  acting_returns : {e : Result Val Short} {r : Result Acts Short} {s : ℕ} → kind_of b n ≡ 16 → Fine b n → (s ≡ span_of b n) × (s < 4294967296) → (s ≡ 1 → ⊥) → Evals b symbols regions (n + 1) w₀ o₀ e w o
+      → ((at : Option ℕ) → acts_end at r ≡ bind_end (gave_end f.returns) (end_of e)) → Acting b symbols regions f n w₀ o₀ r w o
   unfolding returning
-  acting_gives {e} {r} k fn d ne x q = record {
+  acting_returns {e} {r} k fn d ne x q = record {
     goes = λ P named at t h.
         let u = returns_one k (λ z. ne (d.0 ∙ z)) h in
         acts (λ i x m. outcome_sort P x.env at (look x.env t) ∙ ap (by_sort P x.env at (look x.env t)) ((sort_gives {f = f} refl k).is P named x.env t h) ∙ ap (returning P) (u.only x.env))
         (run (returned_as P) named.returned at u.given u.spells);
-    remains = remains (run (returns_as f.returns) (λ v. refl) none (give_kid k fn d ne).tree (give_kid k fn d ne).spells) ready;
+    remains = remains (run (returns_as f.returns) (λ v. refl) None (give_kid k fn d ne).tree (give_kid k fn d ne).spells) ready;
   }
     where
       run : (cast : Val → Val) → ((v : Val) → cast v ≡ returns_as f.returns v) → (at : Option ℕ) (t : Tree) → Stands b (n + 1) t
-          → Goes (given b symbols regions) (λ x. eval (look x.env t) >>= λ v. done (did no_note, some (Returned (some (cast v))))) w₀ o₀ (acts_end at r) w o
+          → Goes (given b symbols regions) (λ x. eval (look x.env t) >>= λ v. done (did no_note, Some (Returned (Some (cast v))))) w₀ o₀ (acts_end at r) w o
       run cast same at t h =
-          told (q.is at)
-          (then_end (λ v. done (did no_note, some (Returned (some (cast v))))) (λ v. gave (did no_note, some (Returned (some (returns_as f.returns v)))))
-          (λ v. ap (λ (z : Val). done (did no_note, some (Returned (some z)))) (same v)) (end_of e) (x.goes t h))
+          told (q at)
+          (then_end (λ v. done (did no_note, Some (Returned (Some (cast v))))) (gave_end f.returns)
+          (λ v. ap (λ (z : Val). done (did no_note, Some (Returned (Some z)))) (same v)) (end_of e) (x.goes t h))
+
+  pub acting_gives : {e : Result Val Short} {v u : Val} {s : ℕ} → kind_of b n ≡ 16 → Fine b n → (s ≡ span_of b n) × (s < 4294967296) → (s ≡ 1 → ⊥) → Evals b symbols regions (n + 1) w₀ o₀ e w o → e ≡ Ok v
+      → u ≡ returns_as f.returns v → Acting b symbols regions f n w₀ o₀ (Ok (Giving u)) w o
+  acting_gives k fn d ne x q g =
+      acting_returns k fn d ne x (λ at. ap (λ (z : Val). ended (did no_note, Some (Returned (Some z)))) g ∙ sym (ap (λ z. bind_end (gave_end f.returns) (end_of z)) q))
+
+  pub acting_short : {e : Result Val Short} {y : Short} {s : ℕ} → kind_of b n ≡ 16 → Fine b n → (s ≡ span_of b n) × (s < 4294967296) → (s ≡ 1 → ⊥) → Evals b symbols regions (n + 1) w₀ o₀ e w o → e ≡ Err y
+      → Acting b symbols regions f n w₀ o₀ (Err y) w o
+  acting_short k fn d ne x q = acting_returns k fn d ne x (λ at. sym (ap (λ z. bind_end (gave_end f.returns) (end_of z)) q))

@@ -2,7 +2,7 @@
 use mathlib.Core.Path.{◌≡◌, refl, sym, ap, ap₂, ◌∙◌, subst}
 use mathlib.Core.Bool.{Bool, not}
 use mathlib.Core.List.{List}
-use mathlib.Core.Option.{Option, none, some}
+use Rattle.std.specs.Prelude.{Option, None, Some}
 use Prim.Native.Nat.{ℕ, ◌<◌}
 use lib.ListN.{length}
 use Rattle.definition.specs.Act.{Act, done, leave, emit, pending, End, gave, stopped, try, ◌>>=◌, Step}
@@ -12,7 +12,6 @@ use Rattle.definition.specs.Record.{step_fields}
 use Rattle.definition.specs.Evaluate.{Did}
 use Rattle.definition.specs.Statements as statements
 use Rattle.definition.proofs.Hosts.{hosted_try}
-use Rattle.index.specs.Answers.{option_of}
 use Rattle.workspace.specs.Parts.{note_part, questions_part}
 use Rattle.workspace.specs.Note.{pending_in}
 use Rattle.workspace.specs.View.{View, view, Changes, leaving}
@@ -57,12 +56,12 @@ try_runs {g = g} {m = m} {w₀ = w₀} {o₀ = o₀} {a₀ = a₀} (ended v) r =
   came = λ x h. hosted_try (host_in g x) (m x) (held w₀ o₀ a₀) ∙ ap caught_end (r.came x h);
   tables = r.tables;
 }
-try_runs {g = g} {m = m} {w₀ = w₀} {o₀ = o₀} {a₀ = a₀} (short (some y)) r = record {
+try_runs {g = g} {m = m} {w₀ = w₀} {o₀ = o₀} {a₀ = a₀} (short (Some y)) r = record {
   ready = r.ready;
   came = λ x h. hosted_try (host_in g x) (m x) (held w₀ o₀ a₀) ∙ ap caught_end (r.came x h);
   tables = r.tables;
 }
-try_runs {A} {g} {m} {w₀} {o₀} {a₀ = a₀} (short none) r = record {
+try_runs {A} {g} {m} {w₀} {o₀} {a₀ = a₀} (short None) r = record {
   ready = tt;
   came = λ x h. subst (λ (p : End (End A) × Held). address_limit < length p.1.view.memory) (sym (hosted_try (host_in g x) (m x) (held w₀ o₀ a₀))) (r.came x h);
   tables = tt;
@@ -74,8 +73,8 @@ module _ {A : Type 0} {g : How → Given} {m : Scene → Act A} {w₀ o₀ w o :
 
   pub tried_then : {B : Type 0} (f : End A → B) (e : Ending A) → Goes g m w₀ o₀ e w o → Goes g (λ x. try (m x) >>= λ r. done (f r)) w₀ o₀ (tried_end f e) w o
   tried_then f (ended v) r = goes (λ x z. done (f z)) (try_end (ended v) r) (done_goes (λ x. f (gave v)) (λ h x m. refl))
-  tried_then f (short (some y)) r = goes (λ x z. done (f z)) (try_end (short (some y)) r) (done_goes (λ x. f (stopped y)) (λ h x m. refl))
-  tried_then f (short none) r = halts (λ x z. done (f z)) none (try_end (short none) r)
+  tried_then f (short (Some y)) r = goes (λ x z. done (f z)) (try_end (short (Some y)) r) (done_goes (λ x. f (stopped y)) (λ h x m. refl))
+  tried_then f (short None) r = halts (λ x z. done (f z)) None (try_end (short None) r)
 
 -- ---- a note cleared
 
@@ -109,7 +108,7 @@ module _ {g : How → Given} {p : Option (List ℕ)} {w₀ w₁ : List ℕ} (c :
 abbrev pub concluding : Site → End statements.Outcome → Act (Option statements.Stop)
 concluding s e = do
   p ← pending done
-  let o = statements.outcome_of (option_of s.address) e
+  let o = statements.outcome_of s.address e
   emit (step_as s o.0 p) (done o.1)
 
 -- the workspace is in order after it
@@ -118,7 +117,7 @@ sent_ready {g} {w = w} {w' = w'} s p = subst (Ready g w') (sym s.counts) (kept_r
 
 module _ (site : Site) (e : End statements.Outcome) where
   abbrev outcome : statements.Outcome
-  outcome = statements.outcome_of (option_of site.address) e
+  outcome = statements.outcome_of site.address e
 
   abbrev step_in : List ℕ → Step
   step_in w = step_as site outcome.0 (pending_in (note_part w))

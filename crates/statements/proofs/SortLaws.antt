@@ -15,7 +15,7 @@ use Rattle.definition.specs.Evaluate.{Env, look, looks}
 use Rattle.definition.specs.Statements.{name_of, is_named, is_halted}
 use Rattle.hosting.specs.declared.Facts.{Facts}
 use Rattle.hosting.specs.Stands.{Stands, stands, Shape, a_constant, an_intrinsic, KidsAt, no_kid, a_kid, Fine}
-use Rattle.hosting.specs.Routine.{Named}
+use Rattle.hosting.specs.Routine.{is_name, Named}
 use Rattle.hosting.proofs.Shapes.{intrinsic_kids, kid_here}
 use Rattle.statements.specs.declared.statements.Sort.{Sort}
 use Rattle.statements.specs.declared.statements.Sort.TheVariants.{Gives, Unreachable, Halts, Plain}
@@ -114,36 +114,36 @@ module _ (b : List ℕ) (f : Facts) (n : ℕ) {k : ℕ} (read : k ≡ kind_of b 
     name_is : (name : List ℕ) → is_named P (look E t) name ≡ same (name_of P x) name
     name_is name = test_named P E name h ∙ ap (λ (j : ℕ). eqb j 15 && same (name_of P (ref_of b n)) name) kind_is ∙ ap (λ (j : ℕ). same (name_of P j) name) (sym named.0)
 
-    unreachable_is : is_named P (look E t) (text "__builtin_unreachable") ≡ eqb x f.unreachable
+    unreachable_is : is_named P (look E t) (text "__builtin_unreachable") ≡ is_name f.unreachable x
     unreachable_is = name_is (text "__builtin_unreachable") ∙ told.unreachable x named.1
 
-    halted_is : is_halted P (look E t) ≡ (eqb x f.halted && (eqb (span_of b n) 2 && eqb (kind_of b (n + 1)) 0))
+    halted_is : is_halted P (look E t) ≡ (is_name f.halted x && (eqb (span_of b n) 2 && eqb (kind_of b (n + 1)) 0))
     halted_is =
         ap (λ (z : Bool). z && eqb (count (kids (look E t))) 1 && is Constant (kid 0 (kids (look E t)))) (name_is (text "__analysis_halted") ∙ told.halted x named.1)
-        ∙ grouped (eqb x f.halted) (eqb (count (kids (look E t))) 1) (is Constant (kid 0 (kids (look E t))))
-        ∙ ap (λ (z : Bool). eqb x f.halted && z) (test_kids E kind_is h)
+        ∙ grouped (is_name f.halted x) (eqb (count (kids (look E t))) 1) (is Constant (kid 0 (kids (look E t))))
+        ∙ ap (λ (z : Bool). is_name f.halted x && z) (test_kids E kind_is h)
       where
         grouped : (u v w : Bool) → (u && v && w) ≡ (u && (v && w))
         grouped true v w = refl
         grouped false v w = refl
 
-  pub sort_unreachable : x ≡ f.unreachable → Sorted b f n Unreachable
+  pub sort_unreachable : is_name f.unreachable x ≡ true → Sorted b f n Unreachable
   sort_unreachable e = record {
-    is = λ P told E t h. sorted_by P (look E t) false true _ (no_return P told E h) (unreachable_is P told E h ∙ eq-eqb x f.unreachable e) refl;
+    is = λ P told E t h. sorted_by P (look E t) false true _ (no_return P told E h) (unreachable_is P told E h ∙ e) refl;
     here = tt;
   }
 
-  module _ (ne : x ≡ f.unreachable → ⊥) where
-    sorts : (c : Bool) {r : Sort} → sort_by false false c ≡ r → (eqb x f.halted && (eqb (span_of b n) 2 && eqb (kind_of b (n + 1)) 0)) ≡ c
+  module _ (ne : is_name f.unreachable x ≡ false) where
+    sorts : (c : Bool) {r : Sort} → sort_by false false c ≡ r → (is_name f.halted x && (eqb (span_of b n) 2 && eqb (kind_of b (n + 1)) 0)) ≡ c
         → (P : Program) → Named f P → (E : Env) (t : Tree) → Stands b n t → sort_of P (look E t) ≡ r
-    sorts c s e P told E t h = sorted_by P (look E t) false false c (no_return P told E h) (unreachable_is P told E h ∙ ne_eqb x f.unreachable ne) (halted_is P told E h ∙ e) ∙ s
+    sorts c s e P told E t h = sorted_by P (look E t) false false c (no_return P told E h) (unreachable_is P told E h ∙ ne) (halted_is P told E h ∙ e) ∙ s
 
-    pub sort_other : (x ≡ f.halted → ⊥) → Sorted b f n Plain
-    sort_other nh = record { is = sorts false refl (ap (λ (z : Bool). z && (eqb (span_of b n) 2 && eqb (kind_of b (n + 1)) 0)) (ne_eqb x f.halted nh)); here = tt }
+    pub sort_other : is_name f.halted x ≡ false → Sorted b f n Plain
+    sort_other nh = record { is = sorts false refl (ap (λ (z : Bool). z && (eqb (span_of b n) 2 && eqb (kind_of b (n + 1)) 0)) nh); here = tt }
 
-    module _ (eh : x ≡ f.halted) {s : ℕ} (spans : (s ≡ span_of b n) × (s < 4294967296)) where
-      halted_by : (eqb x f.halted && (eqb (span_of b n) 2 && eqb (kind_of b (n + 1)) 0)) ≡ (eqb s 2 && eqb (kind_of b (n + 1)) 0)
-      halted_by = ap (λ (z : Bool). z && (eqb (span_of b n) 2 && eqb (kind_of b (n + 1)) 0)) (eq-eqb x f.halted eh) ∙ ap (λ (j : ℕ). eqb j 2 && eqb (kind_of b (n + 1)) 0) (sym spans.0)
+    module _ (eh : is_name f.halted x ≡ true) {s : ℕ} (spans : (s ≡ span_of b n) × (s < 4294967296)) where
+      halted_by : (is_name f.halted x && (eqb (span_of b n) 2 && eqb (kind_of b (n + 1)) 0)) ≡ (eqb s 2 && eqb (kind_of b (n + 1)) 0)
+      halted_by = ap (λ (z : Bool). z && (eqb (span_of b n) 2 && eqb (kind_of b (n + 1)) 0)) eh ∙ ap (λ (j : ℕ). eqb j 2 && eqb (kind_of b (n + 1)) 0) (sym spans.0)
 
       pub sort_many : (s ≡ 2 → ⊥) → Sorted b f n Plain
       sort_many ns = record { is = sorts false refl (halted_by ∙ ap (λ (z : Bool). z && eqb (kind_of b (n + 1)) 0) (ne_eqb s 2 ns)); here = tt }

@@ -2,25 +2,26 @@
 use mathlib.Core.Path.{◌≡◌, refl, sym, ap, ap₂, ◌∙◌, subst}
 use mathlib.Core.Bool.{Bool, true, false, true≢false}
 use mathlib.Core.List.{List}
-use mathlib.Core.Option.{Option, none, some}
+use Rattle.std.specs.Prelude.{Option, None, Some, Result, Ok, Err}
 use Prim.Native.Nat.{ℕ, ◌+◌, ◌*◌, ◌≤◌}
 use lib.ListN.{length}
 use Rattle.files.specs.Program.{Program, Tree, tree_at, statement_at}
-use Rattle.definition.specs.Act.{Act, done, leave, emit, pending, End, gave, stopped, try, Why, ◌>>=◌}
+use Rattle.definition.specs.Act.{Act, done, leave, emit, pending, End, gave, stopped, try, ◌>>=◌}
 use Rattle.definition.specs.Evaluate.{Env, look}
 use Rattle.definition.specs.Evaluate as ev
 use Rattle.definition.specs.Statements as statements
 use Rattle.index.specs.declared.blocks.Statement.{Statement}
-use Rattle.index.specs.Answers.{option_of}
 use Rattle.index.specs.Blocks.{States}
 use Rattle.workspace.specs.View.{Changes, leaving}
 use Rattle.hosting.specs.declared.How.{How}
 use Rattle.hosting.specs.declared.Facts.{Facts}
+use Rattle.hosting.specs.declared.Short.{Short}
+use Rattle.hosting.specs.declared.Short.TheVariants.{Full, Why}
+use Rattle.hosting.specs.declared.Stop.{Stop}
 use Rattle.hosting.specs.Stands.{Stands, Fine}
 use Rattle.hosting.specs.Scene.{Given, given, Scene, Ready}
-use Rattle.hosting.specs.Ending.{Ending, ended, short, short_of}
+use Rattle.hosting.specs.Ending.{Ending, ended, short}
 use Rattle.hosting.specs.Runs.{Kept}
-use Rattle.hosting.proofs.Reasons.{why_some, why_none}
 use Rattle.hosting.proofs.Shapes.{fine}
 use Rattle.operations.specs.Registers.{counts_in, units_of, how_in}
 use Rattle.operations.specs.Going.{Goes, Remains}
@@ -28,8 +29,7 @@ use Rattle.operations.proofs.Registers.{units_same, how_same}
 use Rattle.operations.proofs.Going.{goes, halts, acts, told}
 use Rattle.statements.specs.declared.steps.Site.{Site}
 use Rattle.statements.specs.declared.statements.Acts.{Acts}
-use Rattle.statements.specs.declared.statements.Acts.TheVariants.{Does, Leaves, Gives, Strays, Halts, Fails}
-use Rattle.statements.specs.declared.statements.Halt.{Halt}
+use Rattle.statements.specs.declared.statements.Acts.TheVariants.{Does, Leaves, Gives, Strays, Halts}
 use Rattle.statements.specs.Endings.{tried_end, acts_end, did_in, full_in, HaltIs}
 use Rattle.statements.specs.Sorts.{RootsOf}
 use Rattle.statements.specs.Post.{Acting, Sends, SendsIf, Concludes, RunsStatement}
@@ -37,58 +37,46 @@ use Rattle.statements.proofs.Running.{try_end, leave_goes, concluding, sent_read
 
 -- ---- what is kept unless there is no room
 
-pub kept_fit : (at : Option ℕ) (F : Type 0) (o : Acts) → full_in o ≡ false → Kept (acts_end at o) F → F
-kept_fit at F (Does d) h f = f
-kept_fit at F Leaves h f = f
-kept_fit at F (Gives v) h f = f
-kept_fit at F Strays h f = f
-kept_fit at F (Halts t) h f = f
-kept_fit at F (Fails s) h f = let y = why_some s.reason s.number h in subst (λ (z : Option Why). Kept {A = statements.Outcome} (short z) F) y.1 f
+pub kept_fit : (at : Option ℕ) (F : Type 0) (o : Result Acts Short) → full_in o ≡ false → Kept (acts_end at o) F → F
+kept_fit at F (Ok a) h f = f
+kept_fit at F (Err Full) h f = absurd (true≢false h)
+kept_fit at F (Err (Why r n)) h f = f
 
-pub kept_acts : (at at' : Option ℕ) {F G : Type 0} (o : Acts) → (F → G) → Kept (acts_end at o) F → Kept (acts_end at' o) G
-kept_acts at at' (Does d) h f = h f
-kept_acts at at' Leaves h f = h f
-kept_acts at at' (Gives v) h f = h f
-kept_acts at at' Strays h f = h f
-kept_acts at at' (Halts t) h f = h f
-kept_acts at at' {F} {G} (Fails s) h f = go (short_of s) f
-  where
-    go : (y : Option Why) → Kept {A = statements.Outcome} (short y) F → Kept {A = statements.Outcome} (short y) G
-    go none f = tt
-    go (some y) f = h f
+pub kept_acts : (at at' : Option ℕ) {F G : Type 0} (o : Result Acts Short) → (F → G) → Kept (acts_end at o) F → Kept (acts_end at' o) G
+kept_acts at at' (Ok a) h f = h f
+kept_acts at at' (Err Full) h f = tt
+kept_acts at at' (Err (Why r n)) h f = h f
 
 -- ---- the step is sent, unless there is no room
 
 module _ (site : Site) (at : Option ℕ) (w o : List ℕ) where
-  sends_full : (x : Acts) → full_in x ≡ true → SendsIf site (acts_end at x) w o w o
-  sends_full (Does d) h = absurd (true≢false (sym h))
-  sends_full Leaves h = absurd (true≢false (sym h))
-  sends_full (Gives v) h = absurd (true≢false (sym h))
-  sends_full Strays h = absurd (true≢false (sym h))
-  sends_full (Halts t) h = absurd (true≢false (sym h))
-  sends_full (Fails s) h = subst (λ (z : Option Why). SendsIf site (short z) w o w o) (sym (why_none s.reason s.number h)) refl
+  sends_full : (x : Result Acts Short) → full_in x ≡ true → SendsIf site (acts_end at x) w o w o
+  sends_full (Ok a) h = absurd (true≢false (sym h))
+  sends_full (Err Full) h = refl
+  sends_full (Err (Why r n)) h = absurd (true≢false (sym h))
 
-  sends_some : (w' o' : List ℕ) (x : Acts) → full_in x ≡ false → Sends site (did_in x) w o w' o' → SendsIf site (acts_end at x) w o w' o'
-  sends_some w' o' (Does d) h s = s
-  sends_some w' o' Leaves h s = s
-  sends_some w' o' (Gives v) h s = s
-  sends_some w' o' Strays h s = s
-  sends_some w' o' (Halts t) h s = s
-  sends_some w' o' (Fails f) h s = let y = why_some f.reason f.number h in subst (λ (z : Option Why). SendsIf site (short z) w o w' o') (sym y.1) s
+  sends_some : (w' o' : List ℕ) (x : Result Acts Short) → full_in x ≡ false → Sends site (did_in x) w o w' o' → SendsIf site (acts_end at x) w o w' o'
+  sends_some w' o' (Ok (Does d)) h s = s
+  sends_some w' o' (Ok Leaves) h s = s
+  sends_some w' o' (Ok (Gives v)) h s = s
+  sends_some w' o' (Ok Strays) h s = s
+  sends_some w' o' (Ok (Halts t)) h s = s
+  sends_some w' o' (Err Full) h s = absurd (true≢false h)
+  sends_some w' o' (Err (Why r n)) h s = s
 
-module _ {site : Site} {w o : List ℕ} {x : Acts} {h : Halt} {b : Bool} (halt : HaltIs (option_of site.address) x h) (full : b ≡ full_in x) where
+module _ {site : Site} {w o : List ℕ} {x : Result Acts Short} {h : Option Stop} {b : Bool} (halt : HaltIs site.address x h) (full : b ≡ full_in x) where
   pub conclude_full : b ≡ true → Concludes site w o x h w o
-  conclude_full t = record { halt = halt; sends = sends_full site (option_of site.address) w o x (sym full ∙ t) }
+  conclude_full t = record { halt = halt; sends = sends_full site site.address w o x (sym full ∙ t) }
 
   pub conclude_sent : {d : ev.Did} {w' o' : List ℕ} → b ≡ false → d ≡ did_in x → Sends site d w o w' o' → Concludes site w o x h w' o'
   conclude_sent {w' = w'} {o' = o'} t e s = record {
     halt = halt;
-    sends = sends_some site (option_of site.address) w o w' o' x (sym full ∙ t) (subst (λ (d : ev.Did). Sends site d w o w' o') e s);
+    sends = sends_some site site.address w o w' o' x (sym full ∙ t) (subst (λ (d : ev.Did). Sends site d w o w' o') e s);
   }
 
 -- ---- the outcome, caught, and its step
 
-blank : {A : Type 0} {g : How → Given} {m : Scene → Act A} {w₀ o₀ w o w' o' : List ℕ} → w' ≡ w → Goes g m w₀ o₀ (short none) w o → Goes g m w₀ o₀ (short none) w' o'
+blank : {A : Type 0} {g : How → Given} {m : Scene → Act A} {w₀ o₀ w o w' o' : List ℕ} → w' ≡ w → Goes g m w₀ o₀ (short None) w o → Goes g m w₀ o₀ (short None) w' o'
 blank e r = record {
   how = ap how_in e ∙ r.how;
   units = ap (λ (z : List ℕ). units_of (counts_in z)) e ∙ r.units;
@@ -96,14 +84,14 @@ blank e r = record {
 }
 
 abbrev stop_in : Site → End statements.Outcome → Option statements.Stop
-stop_in site z = (statements.outcome_of (option_of site.address) z).1
+stop_in site z = (statements.outcome_of site.address z).1
 
 module _ (b s r : List ℕ) (site : Site) (w o w' o' : List ℕ) where
   concludes : (m : Scene → Act statements.Outcome) {w₀ o₀ : List ℕ} (e : Ending statements.Outcome) → Goes (given b s r) m w₀ o₀ e w o → SendsIf site e w o w' o'
       → Goes (given b s r) (λ x. try (m x) >>= concluding site) w₀ o₀ (tried_end (stop_in site) e) w' o'
   concludes m (ended v) p t = goes (λ x. concluding site) (try_end (ended v) p) (step_goes site (gave v) t)
-  concludes m (short (some y)) p t = goes (λ x. concluding site) (try_end (short (some y)) p) (step_goes site (stopped y) t)
-  concludes m (short none) p t = blank t (halts (λ x. concluding site) none (try_end (short none) p))
+  concludes m (short (Some y)) p t = goes (λ x. concluding site) (try_end (short (Some y)) p) (step_goes site (stopped y) t)
+  concludes m (short None) p t = blank t (halts (λ x. concluding site) None (try_end (short None) p))
 
   -- what it leaves
   sent_remains : {d : ev.Did} {w₀ : List ℕ} → Sends site d w o w' o' → Remains (given b s r) w₀ w → Remains (given b s r) w₀ w'
@@ -116,14 +104,14 @@ module _ (b s r : List ℕ) (site : Site) (w o w' o' : List ℕ) where
 
   concludes_remains : (w₀ : List ℕ) (e : Ending statements.Outcome) → Kept e (Remains (given b s r) w₀ w) → SendsIf site e w o w' o' → Kept (tried_end (stop_in site) e) (Remains (given b s r) w₀ w')
   concludes_remains w₀ (ended v) p t = sent_remains t p
-  concludes_remains w₀ (short (some y)) p t = sent_remains t p
-  concludes_remains w₀ (short none) p t = tt
+  concludes_remains w₀ (short (Some y)) p t = sent_remains t p
+  concludes_remains w₀ (short None) p t = tt
 
 -- ---- a statement
 
 -- the definition's `run_statement`, by the address and the root
 abbrev stated : Program → Env → (b k : ℕ) → Option ℕ → Tree → Act (Option statements.Stop)
-stated P E b k at t = leave none (do
+stated P E b k at t = leave None (do
   e ← try (statements.outcome P E at (look E t))
   p ← pending done
   let o = statements.outcome_of at e
@@ -151,17 +139,17 @@ cleared_remains {w₀ = w₀} {w₁ = w₁} c r = record {
 abbrev site_of : Statement → ℕ → ℕ → Site
 site_of s b k = record { address = s.address; block = b; statement = k }
 
-module _ {b s r ss : List ℕ} {f : Facts} {n k : ℕ} {w₀ w₁ o₀ w o w' o' : List ℕ} {t : Statement} {q : Acts} {h : Halt}
-    (all : RootsOf b ss) (l : k * 13 + 13 ≤ length ss) (cleared : Changes w₀ (leaving none) w₁) (states : States ss k t) (acted : Acting b s r f t.root w₁ o₀ q w o) where
+module _ {b s r ss : List ℕ} {f : Facts} {n k : ℕ} {w₀ w₁ o₀ w o w' o' : List ℕ} {t : Statement} {q : Result Acts Short} {h : Option Stop}
+    (all : RootsOf b ss) (l : k * 13 + 13 ≤ length ss) (cleared : Changes w₀ (leaving None) w₁) (states : States ss k t) (acted : Acting b s r f t.root w₁ o₀ q w o) where
   pub statement_runs : Concludes (site_of t n k) w o q h w' o' → RunsStatement b s r ss f n k w₀ o₀ h w' o'
   statement_runs c = record {
     goes = λ P named limit.
-        let at = option_of t.address in
+        let at = t.address in
         told (c.halt.is limit)
         (acts (λ h x m. statement_is P x.env b ss n k ∙ ap₂ (λ (z : Option ℕ) (u : Tree). stated P x.env n k z u) (states.address b) (states.root b))
         (leave_goes cleared (concludes b s r (site_of t n k) w o w' o' _ (acts_end at q) (acted.goes P named at (tree_at b t.root) (root_stands all l states)) c.sends)));
     remains =
-        let at = option_of t.address in
+        let at = t.address in
         subst (λ (z : Ending (Option statements.Stop)). Kept z (Remains (given b s r) w₀ w')) (sym (c.halt.is 0))
-        (concludes_remains b s r (site_of t n k) w o w' o' w₀ (acts_end at q) (kept_acts none at q (cleared_remains cleared) acted.remains) c.sends);
+        (concludes_remains b s r (site_of t n k) w o w' o' w₀ (acts_end at q) (kept_acts None at q (cleared_remains cleared) acted.remains) c.sends);
   }

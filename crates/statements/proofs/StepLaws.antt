@@ -1,35 +1,34 @@
 -- A statement's step as the code sends it is the definition's. Assumes nothing.
 use mathlib.Core.Path.{◌≡◌, refl, sym, ap, ◌∙◌, subst}
-use mathlib.Core.Bool.{Bool, true, false, cond, not, true≢false}
+use mathlib.Core.Bool.{Bool, true, false, not, true≢false}
 use mathlib.Core.List.{List, [], ◌++◌, append-nil}
-use mathlib.Core.Option.{none, some}
+use Rattle.std.specs.Prelude.{None, Some}
 use Prim.Native.Nat.{ℕ, zero, suc, ◌+◌, ◌*◌, ◌≤◌, ◌<◌}
 use native.Mathlib.Omega.{arith}
-use borrow.Author.Tests.{eqb-true, eqb-false}
 use lib.Dec.{eqb}
 use lib.ListN.{length, take, drop, length-append}
 use lib.Seq.{take_at}
-use Rattle.value.specs.declared.Val.{Val}
 use Rattle.value.proofs.EncodingLaws.{flag_read}
 use Rattle.layout.specs.Each.{Each}
 use Rattle.layout.specs.Number.{le, num, number_at}
 use Rattle.layout.specs.Format.{number, writes, reads, bool_of}
 use Rattle.layout.proofs.NumberLaws.{length_le, num_le, number_at_lt}
 use Rattle.layout.proofs.FormatLaws.{Below}
-use Rattle.definition.specs.Act.{not_followed, Pending}
+use Rattle.definition.specs.Act.{no_note, not_followed, Pending}
 use Rattle.definition.specs.Evaluate as ev
 use Rattle.definition.specs.Statements as statements
-use Rattle.definition.specs.Fields.{no_val}
 use Rattle.definition.specs.Record.{note_fields, step_fields}
 use Rattle.workspace.specs.Parts.{workspace_size, registers_part, note_part}
 use Rattle.workspace.specs.Note.{names, names_bytes, pending_in, noted, taken, Few}
 use Rattle.workspace.specs.Registers.{word_at}
 use Rattle.workspace.specs.Post.{SetsWord}
 use Rattle.stream.specs.declared.NotePiece.{NotePiece}
+use Rattle.stream.specs.declared.NotePiece.TheVariants.{NotFollowed}
+use Rattle.stream.specs.declared.NotePiece.TheVariants as piece
 use Rattle.stream.specs.declared.StepPiece.{StepPiece}
 use Rattle.stream.specs.Stream.{Sent}
-use Rattle.stream.specs.Pieces.{taken_count, taken_names, step_bytes, none_noted, note_from, step_from}
-use Rattle.stream.proofs.FieldLaws.{noting, note_none, note_fields_lem, note_value, note_unknown, note_followed, note_taken, step_sent, taken_back}
+use Rattle.stream.specs.Pieces.{taken_count, taken_names, step_bytes, note_from, step_from}
+use Rattle.stream.proofs.FieldLaws.{step_sent, taken_back}
 use Rattle.stream.proofs.StepLaws.{length_names}
 use Rattle.hosting.specs.declared.Note.{Note}
 use Rattle.hosting.specs.declared.Note.TheVariants.{Nothing, Fields, Written, Unknown}
@@ -39,47 +38,32 @@ use Rattle.hosting.specs.Held.{with_recorded}
 use Rattle.operations.specs.Registers.{counts_in, how_in}
 use Rattle.operations.proofs.Registers.{recorded_word, second_word, recorded_set, recorded_how}
 use Rattle.statements.specs.declared.steps.Site.{Site}
-use Rattle.statements.specs.Steps.{OwnNote, nothing_in, left_piece, takes_note, piece_of, step_as}
+use Rattle.statements.specs.Steps.{own_piece, piece_of, step_as}
 use Rattle.statements.specs.Post.{Sends}
-use Rattle.statements.proofs.StopLaws.{flagged}
-
--- ---- a note of its own
-
-module _ {note : Note} {p : NotePiece} where
-  pub own_none : note ≡ Nothing → p ≡ none_noted → OwnNote note p
-  own_none e h = rw (e, h) (record { fields = λ names. note_none names; untaken = refl })
-
-  pub own_fields : {a n : ℕ} {v : Val} → note ≡ Fields a n → v ≡ no_val → p ≡ noting 1 a n v false → OwnNote note p
-  own_fields {a} {n} e z h = rw (e, h, z) (record { fields = λ names. note_fields_lem names a n; untaken = refl })
-
-  pub own_value : {a : ℕ} {v : Val} → note ≡ Written a v → p ≡ noting 2 a 0 v false → OwnNote note p
-  own_value {a} {v} e h = rw (e, h) (record { fields = λ names. note_value names a v; untaken = refl })
-
-  pub own_unknown : {v : Val} → note ≡ Unknown → v ≡ no_val → p ≡ noting 3 0 0 v false → OwnNote note p
-  own_unknown e z h = rw (e, h, z) (record { fields = λ names. note_unknown names; untaken = refl })
 
 -- ---- which note a step tells
 
 -- the pending one, where it has none of its own
-left_told : (note : Note) (p : Pending) → takes_note note p ≡ true → statements.note_of (note_of note) p ≡ not_followed (taken p)
-left_told Nothing none h = absurd (true≢false (sym h))
-left_told Nothing (some xs) h = refl
-left_told (Fields a n) p h = absurd (true≢false (sym h))
-left_told (Written a v) p h = absurd (true≢false (sym h))
-left_told Unknown p h = absurd (true≢false (sym h))
+left_told : (note : Note) (p : Pending) → note ≡ Nothing → noted p ≡ true → statements.note_of (note_of note) p ≡ not_followed (taken p)
+left_told note None e h = absurd (true≢false (sym h))
+left_told note (Some xs) e h = ap (λ (z : Note). statements.note_of (note_of z) (Some xs)) e
 
-own_told : (note : Note) (p : Pending) → takes_note note p ≡ false → statements.note_of (note_of note) p ≡ note_of note
-own_told Nothing none h = refl
-own_told Nothing (some xs) h = absurd (true≢false h)
-own_told (Fields a n) p h = refl
-own_told (Written a v) p h = refl
-own_told Unknown p h = refl
+none_told : (note : Note) (p : Pending) → note ≡ Nothing → noted p ≡ false → statements.note_of (note_of note) p ≡ no_note
+none_told note None e h = ap (λ (z : Note). statements.note_of (note_of z) None) e
+none_told note (Some xs) e h = absurd (true≢false h)
 
-pub taken_noted : (note : Note) (p : Pending) → takes_note note p ≡ true → noted p ≡ true
-taken_noted Nothing p h = h
-taken_noted (Fields a n) p h = absurd (true≢false (sym h))
-taken_noted (Written a v) p h = absurd (true≢false (sym h))
-taken_noted Unknown p h = absurd (true≢false (sym h))
+own_told : (note : Note) (names : List ℕ) (p : Pending) → (note ≡ Nothing → ⊥) → note_from (own_piece note) names ≡ note_fields (statements.note_of (note_of note) p)
+unfolding note_from
+own_told Nothing names p ne = absurd (ne refl)
+own_told (Fields a n) names p ne = refl
+own_told (Written a v) names p ne = refl
+own_told Unknown names p ne = refl
+
+own_takes : (note : Note) (names : List ℕ) → taken_count (own_piece note) names ≡ 0
+own_takes Nothing names = refl
+own_takes (Fields a n) names = refl
+own_takes (Written a v) names = refl
+own_takes Unknown names = refl
 
 -- ---- the names in bytes
 
@@ -102,55 +86,42 @@ pub pending_below : (p : List ℕ) → Each (Below 2) (taken (pending_in p))
 unfolding pending_in
 pending_below p = go (bool_of (number_at p 0 1))
   where
-    go : (b : Bool) → Each (Below 2) (taken (elim b [ true ↦ some (names.read (drop 1 p)).0 | false ↦ none ]))
+    go : (b : Bool) → Each (Below 2) (taken (elim b [ true ↦ Some (names.read (drop 1 p)).0 | false ↦ None ]))
     go true = reads_below (num (take 2 (drop 1 p))) (drop 2 (drop 1 p))
     go false = tt
 
-names_taken : (xs : List ℕ) → length xs < 65536 → Each (Below 2) xs → taken_names true (names_bytes xs) ≡ xs
+names_taken : (xs : List ℕ) → length xs < 65536 → Each (Below 2) xs → taken_names NotFollowed (names_bytes xs) ≡ xs
 unfolding names_bytes
-names_taken xs l h = ap (taken_names true) (sym (append-nil (le 2 (length xs) ++ writes (number 2) xs))) ∙ taken_back xs [] l h
+names_taken xs l h = ap (taken_names NotFollowed) (sym (append-nil (le 2 (length xs) ++ writes (number 2) xs))) ∙ taken_back xs [] l h
 
-left_fields : (xs : List ℕ) (count : ℕ) → count ≡ length xs → length xs < 65536 → Each (Below 2) xs → note_from (left_piece count) (names_bytes xs) ≡ note_fields (not_followed xs)
-left_fields xs count e l h = go (eqb count 0) refl ∙ ap (λ (ys : List ℕ). note_fields (not_followed ys)) (names_taken xs l h)
-  where
-    n : number_at (names_bytes xs) 0 2 ≡ count
-    n = names_count xs l ∙ sym e
-
-    go : (b : Bool) → eqb count 0 ≡ b → note_from (left_piece count) (names_bytes xs) ≡ note_fields (not_followed (taken_names true (names_bytes xs)))
-    go true q = ap (λ (b : Bool). note_from (noting (cond b 4 5) 0 0 no_val true) (names_bytes xs)) q ∙ note_followed (names_bytes xs) (n ∙ eqb-true count 0 q)
-    go false q = ap (λ (b : Bool). note_from (noting (cond b 4 5) 0 0 no_val true) (names_bytes xs)) q ∙ note_taken (names_bytes xs) (λ z. eqb-false count 0 q (sym n ∙ z))
+left_fields : (xs : List ℕ) → length xs < 65536 → Each (Below 2) xs → note_from NotFollowed (names_bytes xs) ≡ note_fields (not_followed xs)
+unfolding note_from
+left_fields xs l h = ap (λ (ys : List ℕ). note_fields (not_followed ys)) (names_taken xs l h)
 
 -- ---- the step
 
--- a piece with a note has the step's fields where the note has
-sent_with : {on : Bool} {out out' : List ℕ} {at r : ℕ} (site : Site) (did : Did) (s : StepPiece) (n : NotePiece) (names : List ℕ) (p : Pending) → s ≡ piece_of site did
-    → note_from n names ≡ note_fields (statements.note_of (note_of did.note) p) → Sent on out at (step_bytes (step_from s n names)) out' r
-    → Sent on out at (step_bytes (step_fields (step_as site (did_of did) p))) out' r
-unfolding piece_of
-sent_with {on} {out} {out'} {at} {r} site did s n names p made e t =
-    step_sent (piece_of site did) n names (step_as site (did_of did) p) (subst (λ (z : StepPiece). Sent on out at (step_bytes (step_from z n names)) out' r) made t) (flagged site.address) refl refl refl e
+module _ {on : Bool} {out out' : List ℕ} {at r : ℕ} (site : Site) (did : Did) (s : StepPiece) (p : Pending) (made : s ≡ piece_of site did) where
+  -- a piece with a note has the step's fields where the note has
+  sent_with : (n : NotePiece) (names : List ℕ) → note_from n names ≡ note_fields (statements.note_of (note_of did.note) p) → Sent on out at (step_bytes (step_from s n names)) out' r
+      → Sent on out at (step_bytes (step_fields (step_as site (did_of did) p))) out' r
+  sent_with n names e t =
+      step_sent (piece_of site did) n names (step_as site (did_of did) p) (subst (λ (z : StepPiece). Sent on out at (step_bytes (step_from z n names)) out' r) made t) refl refl refl refl e
 
--- without a note of its own
-nothing_is : (note : Note) → nothing_in note ≡ true → note ≡ Nothing
-nothing_is Nothing h = refl
-nothing_is (Fields a n) h = absurd (true≢false (sym h))
-nothing_is (Written a v) h = absurd (true≢false (sym h))
-nothing_is Unknown h = absurd (true≢false (sym h))
+  pub sent_own : (names : List ℕ) {n : NotePiece} → (did.note ≡ Nothing → ⊥) → n ≡ own_piece did.note → Sent on out at (step_bytes (step_from s n names)) out' r
+      → Sent on out at (step_bytes (step_fields (step_as site (did_of did) p))) out' r
+  sent_own names {n} ne e t = sent_with n names (ap (λ (z : NotePiece). note_from z names) e ∙ own_told did.note names p ne) t
 
-module _ {on : Bool} {out out' : List ℕ} {at r : ℕ} (site : Site) (did : Did) (s : StepPiece) {b : Bool} (p : Pending) (takes : b ≡ takes_note did.note p) (made : s ≡ piece_of site did) where
-  pub sent_own : (names : List ℕ) {n : NotePiece} → b ≡ false → OwnNote did.note n → Sent on out at (step_bytes (step_from s n names)) out' r → Sent on out at (step_bytes (step_fields (step_as site (did_of did) p))) out' r
-  sent_own names {n} f o t = sent_with site did s n names p made (o.fields names ∙ ap note_fields (sym (own_told did.note p (sym takes ∙ f)))) t
+  module _ (none : did.note ≡ Nothing) {b : Bool} (has : b ≡ noted p) where
+    pub sent_plain : b ≡ false → Sent on out at (step_bytes (step_from s piece.Nothing [])) out' r → Sent on out at (step_bytes (step_fields (step_as site (did_of did) p))) out' r
+    unfolding note_from
+    sent_plain f t = sent_with piece.Nothing [] (ap note_fields (sym (none_told did.note p none (sym has ∙ f)))) t
 
-  pub sent_plain : {d : Bool} → b ≡ false → d ≡ nothing_in did.note → d ≡ true → Sent on out at (step_bytes (step_from s none_noted [])) out' r → Sent on out at (step_bytes (step_fields (step_as site (did_of did) p))) out' r
-  sent_plain f e y t = sent_own [] f (own_none (nothing_is did.note (sym e ∙ y)) refl) t
-
-  module _ (names : List ℕ) {n : NotePiece} {count : ℕ} (left : n ≡ left_piece count) (counted : count ≡ length (taken p)) (bytes : names ≡ names_bytes (taken p)) (few : Few p) where
-    pub sent_left : b ≡ true → Each (Below 2) (taken p) → Sent on out at (step_bytes (step_from s n names)) out' r → Sent on out at (step_bytes (step_fields (step_as site (did_of did) p))) out' r
-    sent_left f h t =
-        sent_with site did s (left_piece count) (names_bytes (taken p)) p made
-        (left_fields (taken p) count counted (omega arith) h ∙ ap note_fields (sym (left_told did.note p (sym takes ∙ f))))
-        (subst (λ (z : NotePiece). Sent on out at (step_bytes (step_from s z (names_bytes (taken p)))) out' r) left
-        (subst (λ (z : List ℕ). Sent on out at (step_bytes (step_from s n z)) out' r) bytes t))
+    pub sent_left : {names : List ℕ} → b ≡ true → names ≡ names_bytes (taken p) → Few p → Each (Below 2) (taken p) → Sent on out at (step_bytes (step_from s NotFollowed names)) out' r
+        → Sent on out at (step_bytes (step_fields (step_as site (did_of did) p))) out' r
+    sent_left f bytes few h t =
+        sent_with NotFollowed (names_bytes (taken p))
+        (left_fields (taken p) (omega (arith, few)) h ∙ ap note_fields (sym (left_told did.note p none (sym has ∙ f))))
+        (subst (λ (z : List ℕ). Sent on out at (step_bytes (step_from s NotFollowed z)) out' r) bytes t)
 
 -- in the first pass
 turned : (b : Bool) {d : Bool} → not b ≡ d → b ≡ not d
@@ -178,12 +149,12 @@ sends_of {site} {d} {w} {o} {w'} {o'} {at} {cursor} e s h = record {
     after = sym h.here ∙ recorded_word w'
 
 -- what a step needs of the names beside it
-pub names_fit : {n : NotePiece} (count : ℕ) (xs : List ℕ) {names : List ℕ} → n ≡ left_piece count → names ≡ names_bytes xs → length xs ≤ 16 → 2 + 2 * taken_count n.taken names ≤ length names
-names_fit {n} count xs {names} left bytes few =
-    let t : taken_count n.taken names ≡ length xs = ap (λ (z : NotePiece). taken_count z.taken names) left ∙ ap (taken_count true) bytes ∙ names_count xs (omega arith) in
+pub names_fit : (xs : List ℕ) {names : List ℕ} → names ≡ names_bytes xs → length xs ≤ 16 → 2 + 2 * taken_count NotFollowed names ≤ length names
+names_fit xs {names} bytes few =
+    let t : taken_count NotFollowed names ≡ length xs = ap (taken_count NotFollowed) bytes ∙ names_count xs (omega arith) in
     omega (arith, t, ap length bytes, names_length xs, length_names xs)
 
-pub names_none : {note : Note} {n : NotePiece} (w : List ℕ) → OwnNote note n → workspace_size ≤ length w → 2 + 2 * taken_count n.taken w ≤ length w
-names_none {n = n} w o room =
-    let t : taken_count n.taken w ≡ 0 = ap (λ (z : Bool). taken_count z w) o.untaken in
+pub names_none : (note : Note) {n : NotePiece} (w : List ℕ) → n ≡ own_piece note → workspace_size ≤ length w → 2 + 2 * taken_count n w ≤ length w
+names_none note {n} w e room =
+    let t : taken_count n w ≡ 0 = ap (λ (z : NotePiece). taken_count z w) e ∙ own_takes note w in
     omega (arith, t)

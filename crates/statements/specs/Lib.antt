@@ -1,5 +1,4 @@
 pub mod Telling
-pub mod Flags
 pub mod Reasons
 pub mod Steps
 pub mod Endings

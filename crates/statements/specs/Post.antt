@@ -1,6 +1,5 @@
 -- What statements and terminators ensure. Assumes nothing.
-use Rattle.std.specs.Prelude.{◌≡◌, true, false, not, List, ℕ, eqb}
-use Rattle.std.proofs.Math.Option.{Option, none, some}
+use Rattle.std.specs.Prelude.{◌≡◌, true, false, not, List, ℕ, eqb, Option, None, Some, Result}
 use Rattle.value.specs.declared.Val.{Val}
 use Rattle.layout.specs.Number.{number_at}
 use Rattle.files.specs.Program.{Program, Tree, Statement, Case, case_of, Block, block_at, listed, statement_at}
@@ -9,51 +8,39 @@ use Rattle.definition.specs.Evaluate.{Did, did, number_in, look}
 use Rattle.definition.specs.Record.{step_fields}
 use Rattle.definition.specs.Statements as statements
 use Rattle.definition.specs.Walk as walk
-use Rattle.index.specs.declared.Maybe.{Maybe}
 use Rattle.index.specs.declared.blocks.Place.{Place}
-use Rattle.index.specs.Answers.{option_of}
 use Rattle.workspace.specs.Parts.{note_part}
 use Rattle.workspace.specs.Note.{pending_in}
 use Rattle.workspace.specs.Post.{Aside}
 use Rattle.stream.specs.Stream.{Sent}
 use Rattle.stream.specs.Pieces.{step_bytes}
+use Rattle.std.specs.declared.ops.ControlFlow.{ControlFlow}
+use Rattle.std.specs.declared.ops.ControlFlow.TheVariants.{Continue, Break}
 use Rattle.hosting.specs.declared.Facts.{Facts}
-use Rattle.hosting.specs.declared.Returns.{Returns}
-use Rattle.hosting.specs.declared.Outcome.{Outcome}
-use Rattle.hosting.specs.declared.Done.{Done}
+use Rattle.hosting.specs.declared.Short.{Short}
+use Rattle.hosting.specs.declared.Stop.{Stop}
+use Rattle.statements.specs.declared.terminators.Spot.{Spot}
 use Rattle.hosting.specs.Stands.{Stands}
 use Rattle.hosting.specs.Scene.{given}
-use Rattle.hosting.specs.Ending.{Ending, ended, short, end_of, done_of}
+use Rattle.hosting.specs.Ending.{Ending, ended, short, end_of}
 use Rattle.hosting.specs.Held.{with_recorded}
 use Rattle.hosting.specs.Runs.{Kept}
-use Rattle.hosting.specs.Routine.{returns_as, Named}
+use Rattle.hosting.specs.Routine.{Named}
 use Rattle.operations.specs.Registers.{counts_in, how_in}
 use Rattle.operations.specs.Going.{Remains}
 use Rattle.operations.specs.Going as going
-use Rattle.statements.specs.declared.terminators.Next.{Next}
-use Rattle.statements.specs.declared.terminators.Next.TheVariants.{Stops, Goes}
-use Rattle.statements.specs.declared.terminators.Lead.{Lead}
 use Rattle.statements.specs.declared.steps.Site.{Site}
 use Rattle.statements.specs.declared.statements.Acts.{Acts}
-use Rattle.statements.specs.declared.statements.Halt.{Halt}
-use Rattle.statements.specs.Endings.{bind_end, tried_end, acts_end, halt_end, HaltIs, lead_end, next_end}
+use Rattle.statements.specs.Endings.{tried_end, acts_end, halt_end, HaltIs, next_end}
 use Rattle.statements.specs.Steps.{step_as}
 
 -- ---- statements
 
--- a value is returned
-pub record Gave (returns : Returns) (e : Outcome) (r : Acts) : Type 0 where
-  pub is : (at : Option ℕ) → acts_end at r ≡ bind_end (λ v. gave (did no_note, some (statements.Returned (some (returns_as returns v))))) (end_of e)
-
--- something is executed
-pub record Executing (q : Done) (r : Acts) : Type 0 where
-  pub is : (at : Option ℕ) → acts_end at r ≡ bind_end (λ d. gave (d, none)) (done_of q)
-
 -- in nodes b, with symbols s and regions r, the root at node n does what a statement's root does, whatever its address
-pub record Acting (b s r : List ℕ) (f : Facts) (n : ℕ) (w₀ o₀ : List ℕ) (q : Acts) (w o : List ℕ) : Type 0 where
+pub record Acting (b s r : List ℕ) (f : Facts) (n : ℕ) (w₀ o₀ : List ℕ) (q : Result Acts Short) (w o : List ℕ) : Type 0 where
   pub goes : (P : Program) → Named f P → (at : Option ℕ) (t : Tree) → Stands b n t
       → going.Goes (given b s r) (λ x. statements.outcome P x.env at (look x.env t)) w₀ o₀ (acts_end at q) w o
-  pub remains : Kept (acts_end none q) (Remains (given b s r) w₀ w)
+  pub remains : Kept (acts_end None q) (Remains (given b s r) w₀ w)
 
 -- the step of what was done is sent, with the note of the workspace w, and its end kept in the registers
 pub record Sends (site : Site) (d : Did) (w o w' o' : List ℕ) : Type 0 where
@@ -64,16 +51,16 @@ pub record Sends (site : Site) (d : Did) (w o w' o' : List ℕ) : Type 0 where
 
 abbrev pub SendsIf : Site → Ending statements.Outcome → List ℕ → List ℕ → List ℕ → List ℕ → Type 0
 SendsIf site (ended v) w o w' o' = Sends site v.0 w o w' o'
-SendsIf site (short (some y)) w o w' o' = Sends site (did no_note) w o w' o'
-SendsIf site (short none) w o w' o' = w' ≡ w
+SendsIf site (short (Some y)) w o w' o' = Sends site (did no_note) w o w' o'
+SendsIf site (short None) w o w' o' = w' ≡ w
 
 -- a statement's outcome is concluded, unless there is no room
-pub record Concludes (site : Site) (w o : List ℕ) (q : Acts) (r : Halt) (w' o' : List ℕ) : Type 0 where
-  pub halt : HaltIs (option_of site.address) q r
-  pub sends : SendsIf site (acts_end (option_of site.address) q) w o w' o'
+pub record Concludes (site : Site) (w o : List ℕ) (q : Result Acts Short) (r : Option Stop) (w' o' : List ℕ) : Type 0 where
+  pub halt : HaltIs site.address q r
+  pub sends : SendsIf site (acts_end site.address q) w o w' o'
 
 -- statement k is run, of block n
-pub record RunsStatement (b s r ss : List ℕ) (f : Facts) (n k : ℕ) (w₀ o₀ : List ℕ) (h : Halt) (w o : List ℕ) : Type 0 where
+pub record RunsStatement (b s r ss : List ℕ) (f : Facts) (n k : ℕ) (w₀ o₀ : List ℕ) (h : Option Stop) (w o : List ℕ) : Type 0 where
   pub goes : (P : Program) → Named f P → (limit : ℕ)
       → going.Goes (given b s r) (λ x. statements.run_statement P x.env n (statement_at b ss k)) w₀ o₀ (halt_end limit h) w o
   pub remains : Kept (halt_end 0 h) (Remains (given b s r) w₀ w)
@@ -83,38 +70,38 @@ pub record RunsStatement (b s r ss : List ℕ) (f : Facts) (n k : ℕ) (w₀ o�
 -- what a Branch and a Switch make of their value
 abbrev pub branches : (root taken next : ℕ) → Val → End ℕ
 branches root taken next v = elim (number_in v) [
-  | none ↦ stopped (branch_unknown root)
-  | some n ↦ gave (elim (eqb n 0) [ true ↦ next | false ↦ taken ])
+  | None ↦ stopped (branch_unknown root)
+  | Some n ↦ gave (elim (eqb n 0) [ true ↦ next | false ↦ taken ])
 ]
 
 abbrev pub switches : (root : ℕ) → List Case → Val → End ℕ
 switches root cases v = elim v.known [
   | false ↦ stopped (switch_unknown root)
-  | true ↦ elim (case_of cases (walk.extended v)) [ none ↦ stopped (no_case (walk.extended v)) | some b ↦ gave b ]
+  | true ↦ elim (case_of cases (walk.extended v)) [ None ↦ stopped (no_case (walk.extended v)) | Some b ↦ gave b ]
 ]
 
 -- the statements of the block at a place, whatever the nodes
 abbrev pub statements_at : (nodes statements blocks : List ℕ) → Place → List Statement
 statements_at nodes ss blocks p = listed (statement_at nodes ss) p.first (number_at blocks p.start 2)
 
-pub record LastIs (ss blocks : List ℕ) (p : Place) (r : Maybe) : Type 0 where
-  pub is : (nodes : List ℕ) → option_of r ≡ walk.last_address (statements_at nodes ss blocks p)
+pub record LastIs (ss blocks : List ℕ) (p : Place) (r : Option ℕ) : Type 0 where
+  pub is : (nodes : List ℕ) → r ≡ walk.last_address (statements_at nodes ss blocks p)
 
-pub record AddressIs (ss blocks : List ℕ) (p : Place) (address r : Maybe) : Type 0 where
-  pub is : (nodes : List ℕ) → option_of r ≡ walk.address_or (option_of address) (statements_at nodes ss blocks p)
+pub record AddressIs (ss blocks : List ℕ) (p : Place) (address r : Option ℕ) : Type 0 where
+  pub is : (nodes : List ℕ) → r ≡ walk.address_or address (statements_at nodes ss blocks p)
 
 -- what comes next is no statement of a block that was entered
-abbrev pub Outside : Next → Type 0
-Outside (Stops s) = Unit
-Outside (Goes s) = s.inside ≡ false
+abbrev pub Outside : ControlFlow Stop Spot → Type 0
+Outside (Break s) = Unit
+Outside (Continue s) = s.inside ≡ false
 
-pub record Leads (ss blocks : List ℕ) (p : Place) (address : Maybe) (l : Lead) (q : Next) : Type 0 where
-  pub is : (nodes : List ℕ) (limit : ℕ) → next_end limit q ≡ tried_end (walk.left_to (walk.address_or (option_of address) (statements_at nodes ss blocks p))) (lead_end l)
+pub record Leads (ss blocks : List ℕ) (p : Place) (address : Option ℕ) (l : Result ℕ Short) (q : ControlFlow Stop Spot) : Type 0 where
+  pub is : (nodes : List ℕ) (limit : ℕ) → next_end limit q ≡ tried_end (walk.left_to (walk.address_or address (statements_at nodes ss blocks p))) (end_of l)
   pub outside : Outside q
 
 abbrev pub block_of : (nodes statements blocks : List ℕ) → Place → Block
 block_of nodes ss blocks p = block_at nodes ss blocks p.start p.first
 
-pub record Terminates (b s r ss blocks : List ℕ) (p : Place) (w₀ o₀ : List ℕ) (q : Next) (w o : List ℕ) : Type 0 where
+pub record Terminates (b s r ss blocks : List ℕ) (p : Place) (w₀ o₀ : List ℕ) (q : ControlFlow Stop Spot) (w o : List ℕ) : Type 0 where
   pub goes : (limit : ℕ) → going.Goes (given b s r) (λ x. walk.terminate x.env (block_of b ss blocks p).statements (block_of b ss blocks p).terminator) w₀ o₀ (next_end limit q) w o
   pub outside : Outside q

@@ -1,39 +1,32 @@
 -- Which field of a stop holds what a reason names. Assumes nothing.
-use Rattle.std.specs.Prelude.{Bool, cond, ◌||◌, ℕ, eqb, ltb}
+use Rattle.std.specs.Prelude.{ℕ, Option, None, Some}
 use Rattle.value.specs.declared.Val.{Val}
 use Rattle.definition.specs.Fields.{no_val}
-use Rattle.index.specs.declared.Maybe.{Maybe}
+use Rattle.stream.specs.declared.Kind.{Kind}
+use Rattle.stream.specs.declared.Kind.TheVariants.{Unknown}
+use Rattle.stream.specs.declared.Reason.{Reason}
+use Rattle.stream.specs.declared.Reason.TheVariants.{BranchUnknown, SwitchUnknown, NoCase, StructTo, UnknownAddress, UnknownValue, NoWidth, StoreTo, ByZero}
 use Rattle.stream.specs.declared.StopPiece.{StopPiece}
 use Rattle.hosting.specs.declared.Short.{Short}
-use Rattle.statements.specs.Flags.{known_of, number_of}
+use Rattle.hosting.specs.declared.Short.TheVariants.{Full, Why}
 
--- kind, reason, whether there is an address, the address, number, node, name, value
-abbrev pub stopping : (kind reason : ℕ) → Bool → (address number node name : ℕ) → Val → StopPiece
-stopping kind reason located address number node name value = record {
-  kind = kind;
-  reason = reason;
-  located = located;
-  address = address;
-  number = number;
-  node = node;
-  name = name;
-  value = value;
-}
+-- a stop that has no reason
+abbrev pub stopping : Kind → (address : Option ℕ) → (number : ℕ) → Val → StopPiece
+stopping kind address number value = record { kind = kind; reason = None; address = address; number = number; node = 0; name = 0; value = value }
 
-abbrev pub reason_of : ℕ → ℕ
-reason_of r = cond (ltb 9 r) 9 r
+-- the number, the node and the name: a value that has no case or an address stored to, a node, or a symbol without width
+abbrev pub named : Reason → ℕ → ℕ × (ℕ × ℕ)
+named BranchUnknown n = (0, (n, 0))
+named SwitchUnknown n = (0, (n, 0))
+named NoCase n = (n, (0, 0))
+named StructTo n = (0, (n, 0))
+named UnknownAddress n = (0, (n, 0))
+named UnknownValue n = (n, (0, 0))
+named NoWidth n = (0, (0, n))
+named StoreTo n = (0, (n, 0))
+named ByZero n = (0, (0, 0))
 
--- the value that has no case, or the address stored to
-abbrev pub number_in : ℕ → ℕ → ℕ
-number_in r n = cond (eqb r 3 || eqb r 6) n 0
-
-abbrev pub node_in : ℕ → ℕ → ℕ
-node_in r n = cond (eqb r 1 || eqb r 2 || eqb r 4 || eqb r 5 || eqb r 8) n 0
-
--- a symbol without width
-abbrev pub name_in : ℕ → ℕ → ℕ
-name_in r n = cond (eqb r 7) n 0
-
-unfoldable pub unknown_piece : Maybe → Short → StopPiece
-unknown_piece at s =
-    stopping 3 (reason_of s.reason) (known_of at) (number_of at) (number_in s.reason s.number) (node_in s.reason s.number) (name_in s.reason s.number) no_val
+-- why an evaluation ended short; for want of room there is no reason
+abbrev pub unknown_piece : Option ℕ → Short → StopPiece
+unknown_piece at Full = stopping Unknown at 0 no_val
+unknown_piece at (Why r n) = record { kind = Unknown; reason = Some r; address = at; number = (named r n).0; node = (named r n).1.0; name = (named r n).1.1; value = no_val }

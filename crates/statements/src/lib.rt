@@ -2,8 +2,17 @@
 // The layer below the walk: it spends no unit, and knows no order of the blocks.
 #![tactic(auto)]
 
-mod maybe;
 pub mod statements;
 mod steps;
 pub mod stops;
 pub mod terminators;
+
+use hosting::Reads;
+
+// What a walk reads: what its evaluations do, and the statements and the blocks of the routine.
+#[derive(Clone, Copy)]
+pub struct Bodies<'a> {
+    pub reads: Reads<'a>,
+    pub statements: &'a [u8],
+    pub blocks: &'a [u8],
+}

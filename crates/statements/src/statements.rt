@@ -6,24 +6,23 @@ ghost use Rattle.hosting.specs.Scene.{given};
 ghost use Rattle.hosting.specs.Stands.{Fine};
 ghost use Rattle.definition.specs.Act.{no_note};
 ghost use Rattle.definition.specs.Evaluate.{did};
-ghost use Rattle.hosting.specs.Routine.{returns_as};
+ghost use Rattle.hosting.specs.Routine.{returns_as, is_name};
 ghost use Rattle.hosting.specs.Ending.{did_of};
 ghost use Rattle.hosting.specs.Runs.{Kept};
 ghost use Rattle.operations.specs.Registers.{counts_in};
 ghost use Rattle.operations.specs.Going.{ReadyIn};
-ghost use Rattle.index.specs.Answers.{option_of};
 ghost use Rattle.statements.specs.Endings.{acts_end, did_in, full_in, HaltIs};
 ghost use Rattle.statements.specs.Sorts.{Sorted, RootsOf};
-ghost use Rattle.statements.specs.Post.{Gave, Executing, Acting, Sends, Concludes, RunsStatement};
+ghost use Rattle.statements.specs.Post.{Acting, Sends, Concludes, RunsStatement};
 
+use crate::Bodies;
 use crate::steps::{Site, send};
-use hosting::{Did, Done, Facts, Note, Outcome, Returns, Short, Stop};
-use index::Maybe;
+use hosting::{Did, Facts, Note, Reads, Short, Stop};
 use operations::results::RECORDED;
-use value::Val;
+use value::{Ty, Val};
 use workspace::registers;
 
-// With what a statement's root ends: it did something, or it ends the run, with no value or with one, or as an Intrinsic does, or it ends short.
+// What a statement's root did: something, or it ends the run, with no value or with one, or as an Intrinsic does.
 #[derive(Clone, Copy)]
 pub enum Acts {
     Does(Did),
@@ -31,23 +30,22 @@ pub enum Acts {
     Gives(Val),
     Strays,
     Halts(u64),
-    Fails(Short),
-}
-
-// Whether the run stops after a statement.
-#[derive(Clone, Copy)]
-pub enum Halt {
-    Not,
-    With(Stop),
 }
 
 // What a statement's root is.
-#[derive(Clone, Copy)]
+#[derive(Clone, Copy, PartialEq, Eq)]
 pub enum Sort {
     Gives,
     Unreachable,
     Halts,
     Plain,
+}
+
+// Whether a name is one that a routine may have.
+fn is_name(one: Option<usize>, name: usize) -> bool
+    ensures { result ≡ is_name one name }
+{
+    one == Some(name)
 }
 
 // A Return, then the two Intrinsics that end a run; `__analysis_halted` has exactly one argument, a Constant.
@@ -63,10 +61,10 @@ fn sort_of(nodes: &[u8], facts: Facts, n: usize) -> Sort
         return Sort::Plain;
     }
     let name = files::nodes::reference(nodes, n);
-    if name == facts.unreachable {
+    if is_name(facts.unreachable, name) {
         return Sort::Unreachable;
     }
-    if name != facts.halted {
+    if !is_name(facts.halted, name) {
         return Sort::Plain;
     }
     if files::nodes::span(nodes, n) != 2 {
@@ -79,77 +77,42 @@ fn sort_of(nodes: &[u8], facts: Facts, n: usize) -> Sort
 }
 
 // A returned value is cast to the return type.
-fn returned(returns: Returns, v: Val) -> Val
+fn returned(returns: Option<Ty>, v: Val) -> Val
     ensures { result ≡ returns_as returns v }
 {
     match returns {
-        Returns::As(ty) => v.cast(ty),
-        Returns::Void => v,
-    }
-}
-
-// A value is returned.
-fn gave(returns: Returns, e: Outcome) -> Acts
-    ensures { Gave returns e result }
-{
-    match e {
-        Outcome::Is(v) => Acts::Gives(returned(returns, v)),
-        Outcome::Ends(s) => Acts::Fails(s),
+        Some(ty) => v.cast(ty),
+        None => v,
     }
 }
 
 // `return;` or `return value;`.
-fn give(
-    nodes: &[u8],
-    symbols: &[u8],
-    regions: &[u8],
-    ws: &mut [u8],
-    out: &mut [u8],
-    facts: Facts,
-    n: usize,
-) -> Acts
-    requires ready_in { ReadyIn (given nodes.now symbols.now regions.now) ws.old }
-    requires fine { (Fine nodes.now n) × (kind_of nodes.now n ≡ 16) }
-    ensures { Acting nodes.now symbols.now regions.now facts n ws.old out.old result ws.new out.new }
+fn give(reads: Reads, ws: &mut [u8], out: &mut [u8], facts: Facts, n: usize) -> Result<Acts, Short>
+    requires ready_in { ReadyIn (given reads.nodes.now reads.symbols.now reads.regions.now) ws.old }
+    requires fine { (Fine reads.nodes.now n) × (kind_of reads.nodes.now n ≡ 16) }
+    ensures { Acting reads.entry.nodes.now reads.entry.symbols.now reads.entry.regions.now facts n ws.old out.old result ws.new out.new }
 {
-    if files::nodes::span(nodes, n) == 1 {
-        return Acts::Leaves;
+    if files::nodes::span(reads.nodes, n) == 1 {
+        return Ok(Acts::Leaves);
     }
-    let e = machine::eval(nodes, symbols, regions, ws, out, n + 1);
-    let returns = facts.returns;
-    gave(returns, e)
-}
-
-// What executing came to.
-fn done(q: Done) -> Acts
-    ensures { Executing q result }
-{
-    match q {
-        Done::Does(d) => Acts::Does(d),
-        Done::Fails(s) => Acts::Fails(s),
-    }
+    let v = machine::eval(reads, ws, out, n + 1)?;
+    Ok(Acts::Gives(returned(facts.returns, v)))
 }
 
 // What the root of a statement does.
-fn act(
-    nodes: &[u8],
-    symbols: &[u8],
-    regions: &[u8],
-    ws: &mut [u8],
-    out: &mut [u8],
-    facts: Facts,
-    n: usize,
-) -> Acts
-    requires ready_in { ReadyIn (given nodes.now symbols.now regions.now) ws.old }
-    requires fine { Fine nodes.now n }
-    ensures { Acting nodes.now symbols.now regions.now facts n ws.old out.old result ws.new out.new }
+fn act(reads: Reads, ws: &mut [u8], out: &mut [u8], facts: Facts, n: usize) -> Result<Acts, Short>
+    requires ready_in { ReadyIn (given reads.nodes.now reads.symbols.now reads.regions.now) ws.old }
+    requires fine { Fine reads.nodes.now n }
+    ensures { Acting reads.entry.nodes.now reads.entry.symbols.now reads.entry.regions.now facts n ws.old out.old result ws.new out.new }
 {
-    let sort = sort_of(nodes, facts, n);
-    match sort {
-        Sort::Gives => give(nodes, symbols, regions, ws, out, facts, n),
-        Sort::Unreachable => Acts::Strays,
-        Sort::Halts => Acts::Halts(files::nodes::value(nodes, n + 1)),
-        Sort::Plain => done(machine::execute(nodes, symbols, regions, ws, out, n)),
+    match sort_of(reads.nodes, facts, n) {
+        Sort::Gives => give(reads, ws, out, facts, n),
+        Sort::Unreachable => Ok(Acts::Strays),
+        Sort::Halts => Ok(Acts::Halts(files::nodes::value(reads.nodes, n + 1))),
+        Sort::Plain => {
+            let did = machine::execute(reads, ws, out, n)?;
+            Ok(Acts::Does(did))
+        }
     }
 }
 
@@ -158,53 +121,40 @@ fn nothing() -> Did
     ensures { did_of result ≡ did no_note }
 {
     Did {
-        wrote: false,
-        name: 0,
-        value: stream::no_value(),
+        wrote: None,
         note: Note::Nothing,
     }
 }
 
 // What its step tells.
-fn did_of(o: Acts) -> Did
+fn did_of(o: Result<Acts, Short>) -> Did
     ensures { did_of result ≡ did_in o }
 {
     match o {
-        Acts::Does(d) => d,
-        Acts::Leaves => nothing(),
-        Acts::Gives(_) => nothing(),
-        Acts::Strays => nothing(),
-        Acts::Halts(_) => nothing(),
-        Acts::Fails(_) => nothing(),
+        Ok(Acts::Does(d)) => d,
+        _ => nothing(),
     }
 }
 
 // Whether the run stops after it.
-fn halt_of(address: Maybe, o: Acts) -> Halt
-    ensures { HaltIs (option_of address) o result }
+fn halt_of(address: Option<u64>, o: Result<Acts, Short>) -> Option<Stop>
+    ensures { HaltIs address o result }
 {
     match o {
-        Acts::Does(_) => Halt::Not,
-        Acts::Leaves => Halt::With(Stop::ReturnedNothing),
-        Acts::Gives(v) => Halt::With(Stop::Returned(v)),
-        Acts::Strays => Halt::With(Stop::NoReturn(address)),
-        Acts::Halts(target) => Halt::With(Stop::Halted(address, target)),
-        Acts::Fails(s) => Halt::With(Stop::Unknown(address, s)),
+        Ok(Acts::Does(_)) => None,
+        Ok(Acts::Leaves) => Some(Stop::ReturnedNothing),
+        Ok(Acts::Gives(v)) => Some(Stop::Returned(v)),
+        Ok(Acts::Strays) => Some(Stop::NoReturn(address)),
+        Ok(Acts::Halts(target)) => Some(Stop::Halted(address, target)),
+        Err(s) => Some(Stop::Unknown(address, s)),
     }
 }
 
 // Whether it ended short as the workspace has no room left.
-fn is_full(o: Acts) -> bool
+fn is_full(o: Result<Acts, Short>) -> bool
     ensures { result ≡ full_in o }
 {
-    match o {
-        Acts::Does(_) => false,
-        Acts::Leaves => false,
-        Acts::Gives(_) => false,
-        Acts::Strays => false,
-        Acts::Halts(_) => false,
-        Acts::Fails(s) => s.reason == Short::FULL,
-    }
+    matches!(o, Err(Short::Full))
 }
 
 // A step is recorded: the cursor of the steps moves past it.
@@ -217,8 +167,8 @@ fn recorded(ws: &mut [u8], out: &mut [u8], site: Site, did: Did)
 }
 
 // The step of what was done, unless the workspace has no room left.
-fn conclude(ws: &mut [u8], out: &mut [u8], site: Site, o: Acts) -> Halt
-    requires { Kept (acts_end (option_of site.address) o) (Fit ws.old (counts_in ws.old).stored) }
+fn conclude(ws: &mut [u8], out: &mut [u8], site: Site, o: Result<Acts, Short>) -> Option<Stop>
+    requires { Kept (acts_end site.address o) (Fit ws.old (counts_in ws.old).stored) }
     ensures { Concludes site ws.old out.old o result ws.new out.new }
 {
     let address = site.address;
@@ -232,24 +182,21 @@ fn conclude(ws: &mut [u8], out: &mut [u8], site: Site, o: Acts) -> Halt
 
 // Statement k, of a block.
 pub fn statement(
-    nodes: &[u8],
-    statements: &[u8],
-    symbols: &[u8],
-    regions: &[u8],
+    bodies: Bodies,
     ws: &mut [u8],
     out: &mut [u8],
     facts: Facts,
     block: usize,
     k: usize,
-) -> Halt
-    requires ready_in { ReadyIn (given nodes.now symbols.now regions.now) ws.old }
-    requires has_statement { (k * 13 + 13 ≤ length statements.now) × RootsOf nodes.now statements.now }
-    ensures { RunsStatement nodes.now symbols.now regions.now statements.now facts block k ws.old out.old result ws.new out.new }
+) -> Option<Stop>
+    requires ready_in { ReadyIn (given bodies.reads.nodes.now bodies.reads.symbols.now bodies.reads.regions.now) ws.old }
+    requires has_statement { (k * 13 + 13 ≤ length bodies.statements.now) × RootsOf bodies.reads.nodes.now bodies.statements.now }
+    ensures { RunsStatement bodies.entry.reads.nodes.now bodies.entry.reads.symbols.now bodies.entry.reads.regions.now bodies.entry.statements.now facts block k ws.old out.old result ws.new out.new }
 {
     workspace::note::clear_note(ws);
-    let s = index::blocks::statement_at(statements, k);
+    let s = index::blocks::statement_at(bodies.statements, k);
     let address = s.address;
-    let o = act(nodes, symbols, regions, ws, out, facts, s.root);
+    let o = act(bodies.reads, ws, out, facts, s.root);
     let site = Site {
         address,
         block,

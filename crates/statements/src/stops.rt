@@ -1,25 +1,21 @@
-// Why a run stopped, by the record's numbers.
-ghost use Rattle.std.specs.Prelude.{◌≡◌, false};
+// Why a run stopped, in the record's fields.
+ghost use Rattle.std.specs.Prelude.{◌≡◌, None};
 ghost use Rattle.definition.specs.Fields.{no_val};
-ghost use Rattle.statements.specs.Flags.{known_of, number_of};
 ghost use Rattle.statements.specs.Telling.{Tells};
-ghost use Rattle.statements.specs.Reasons.{stopping, reason_of, number_in, node_in, name_in, unknown_piece};
+ghost use Rattle.statements.specs.Reasons.{stopping, named, unknown_piece};
 
-use crate::maybe::{is_known, number_of};
 use hosting::{Short, Stop};
-use index::Maybe;
-use stream::StopPiece;
+use stream::{Kind, Reason, StopPiece};
 use value::Val;
 
 // A stop without an address.
-fn plain(kind: u64, number: u64, value: Val) -> StopPiece
-    ensures { result ≡ stopping kind 0 false 0 number 0 0 value }
+fn plain(kind: Kind, number: u64, value: Val) -> StopPiece
+    ensures { result ≡ stopping kind None number value }
 {
     StopPiece {
         kind,
-        reason: 0,
-        located: false,
-        address: 0,
+        reason: None,
+        address: None,
         number,
         node: 0,
         name: 0,
@@ -28,14 +24,13 @@ fn plain(kind: u64, number: u64, value: Val) -> StopPiece
 }
 
 // A stop at an address.
-fn located(kind: u64, at: Maybe, number: u64) -> StopPiece
-    ensures { result ≡ stopping kind 0 (known_of at) (number_of at) number 0 0 no_val }
+fn located(kind: Kind, address: Option<u64>, number: u64) -> StopPiece
+    ensures { result ≡ stopping kind address number no_val }
 {
     StopPiece {
         kind,
-        reason: 0,
-        located: is_known(at),
-        address: number_of(at),
+        reason: None,
+        address,
         number,
         node: 0,
         name: 0,
@@ -43,61 +38,33 @@ fn located(kind: u64, at: Maybe, number: u64) -> StopPiece
     }
 }
 
-// Numbers past the last reason's stand for it too.
-fn reason_of(reason: u64) -> u64
-    ensures { result ≡ reason_of reason }
+// The number, the node and the name, of which one is what a reason names.
+fn named(reason: Reason, n: u64) -> (u64, (u64, u64))
+    ensures { result ≡ named reason n }
 {
-    if Short::BY_ZERO < reason {
-        Short::BY_ZERO
-    } else {
-        reason
+    match reason {
+        Reason::NoCase | Reason::UnknownValue => (n, (0, 0)),
+        Reason::NoWidth => (0, (0, n)),
+        Reason::ByZero => (0, (0, 0)),
+        _ => (0, (n, 0)),
     }
 }
 
-// Which of the three fields holds what a reason names.
-fn number_in(reason: u64, number: u64) -> u64
-    ensures { result ≡ number_in reason number }
+// Why an evaluation ended short, at an address. For want of room no record is written.
+fn unknown(address: Option<u64>, short: Short) -> StopPiece
+    ensures { result ≡ unknown_piece address short }
 {
-    if (reason == Short::NO_CASE) | (reason == Short::UNKNOWN_VALUE) {
-        number
-    } else {
-        0
-    }
-}
-
-fn node_in(reason: u64, number: u64) -> u64
-    ensures { result ≡ node_in reason number }
-{
-    if (reason == Short::BRANCH_UNKNOWN)
-        | (reason == Short::SWITCH_UNKNOWN)
-        | (reason == Short::STRUCT_TO)
-        | (reason == Short::UNKNOWN_ADDRESS)
-        | (reason == Short::STORE_TO)
-    {
-        number
-    } else {
-        0
-    }
-}
-
-fn name_in(reason: u64, number: u64) -> u64
-    ensures { result ≡ name_in reason number }
-{
-    if reason == Short::NO_WIDTH { number } else { 0 }
-}
-
-// Why an evaluation ended short, at an address.
-fn unknown(at: Maybe, short: Short) -> StopPiece
-    ensures { result ≡ unknown_piece at short }
-{
+    let Short::Why(reason, n) = short else {
+        return located(Kind::Unknown, address, 0);
+    };
+    let (number, (node, name)) = named(reason, n);
     StopPiece {
-        kind: 3,
-        reason: reason_of(short.reason),
-        located: is_known(at),
-        address: number_of(at),
-        number: number_in(short.reason, short.number),
-        node: node_in(short.reason, short.number),
-        name: name_in(short.reason, short.number),
+        kind: Kind::Unknown,
+        reason: Some(reason),
+        address,
+        number,
+        node,
+        name,
         value: stream::no_value(),
     }
 }
@@ -107,13 +74,13 @@ pub fn stop_piece(stop: Stop, limit: u64) -> StopPiece
     ensures { Tells limit stop result }
 {
     match stop {
-        Stop::ReturnedNothing => plain(1, 0, stream::no_value()),
-        Stop::Returned(v) => plain(0, 0, v),
-        Stop::Steps => plain(2, limit, stream::no_value()),
+        Stop::ReturnedNothing => plain(Kind::ReturnedNothing, 0, stream::no_value()),
+        Stop::Returned(v) => plain(Kind::Returned, 0, v),
+        Stop::Steps => plain(Kind::Steps, limit, stream::no_value()),
         Stop::Unknown(at, short) => unknown(at, short),
-        Stop::NoBlock(b) => plain(4, b, stream::no_value()),
-        Stop::NoBlocks => plain(5, 0, stream::no_value()),
-        Stop::NoReturn(at) => located(6, at, 0),
-        Stop::Halted(at, target) => located(7, at, target),
+        Stop::NoBlock(b) => plain(Kind::NoBlock, b, stream::no_value()),
+        Stop::NoBlocks => plain(Kind::NoBlocks, 0, stream::no_value()),
+        Stop::NoReturn(at) => located(Kind::NoReturn, at, 0),
+        Stop::Halted(at, target) => located(Kind::Halted, at, target),
     }
 }

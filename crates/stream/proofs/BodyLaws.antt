@@ -1,21 +1,34 @@
 -- The bodies that are written at once, and the pairs: stored group by group. Assumes nothing.
 use mathlib.Core.Path.{◌≡◌, refl, ap, ◌∙◌}
 use mathlib.Core.List.{List, [], ◌∷◌, ◌++◌}
-use mathlib.Core.Option.{Option}
+use Rattle.std.specs.Prelude.{Option, Some}
 use Prim.Native.Nat.{ℕ, ◌+◌}
 use lib.Seq.{sets}
 use Rattle.value.specs.declared.Val.{Val}
 use Rattle.layout.specs.Number.{le, put_number}
 use Rattle.definition.specs.Record.{counts_body}
+use Rattle.stream.specs.declared.Reason.{Reason}
+use Rattle.stream.specs.declared.Reason.TheVariants.{BranchUnknown, SwitchUnknown, NoCase, StructTo, UnknownAddress, UnknownValue, NoWidth, StoreTo, ByZero}
 use Rattle.stream.specs.declared.StopPiece.{StopPiece}
 use Rattle.stream.specs.declared.Lengths.{Lengths}
 use Rattle.value.specs.Encoding.{val_bytes}
-use Rattle.stream.specs.Pieces.{optional}
 use Rattle.stream.specs.Groups.{flagged_bytes, cause_bytes, named_bytes}
-use Rattle.stream.specs.Bodies.{stop_size, counts_size, stop_place, steps_place, stop_bytes, stop_from, pairs_of, lengths_of}
+use Rattle.stream.specs.Bodies.{kind_number, reason_number, reason_at, reason_field, stop_size, counts_size, stop_place, steps_place, stop_bytes, stop_from, pairs_of, lengths_of}
 use Rattle.stream.proofs.StoreLaws.{two_stored}
 
 -- ---- Stop
+
+-- a reason is that of its number
+pub numbered_back : (r : Reason) → reason_at (reason_number r) ≡ Some r
+numbered_back BranchUnknown = refl
+numbered_back SwitchUnknown = refl
+numbered_back NoCase = refl
+numbered_back StructTo = refl
+numbered_back UnknownAddress = refl
+numbered_back UnknownValue = refl
+numbered_back NoWidth = refl
+numbered_back StoreTo = refl
+numbered_back ByZero = refl
 
 pub cause_stored : (s t u w : List ℕ) (kind reason : ℕ) (o : Option ℕ) → t ≡ put_number s 0 1 kind → u ≡ put_number t 1 1 reason → w ≡ sets u 2 (flagged_bytes o)
     → w ≡ sets s 0 (cause_bytes kind reason o)
@@ -30,11 +43,11 @@ named_stored s t u w x number node name v p q r e =
     two_stored (le 8 number ++ le 4 node ++ le 2 name) (val_bytes v) s w x 11 25
     (two_stored (le 8 number ++ le 4 node) (le 2 name) s u w 11 23 (two_stored (le 8 number) (le 4 node) s t u 11 19 p q refl) r refl) e refl
 
-pub stop_stored : (s t u : List ℕ) (p : StopPiece) → t ≡ sets s 0 (cause_bytes p.kind p.reason (optional p.located p.address))
+pub stop_stored : (s t u : List ℕ) (p : StopPiece) → t ≡ sets s 0 (cause_bytes (kind_number p.kind) (reason_field p.reason) p.address)
     → u ≡ sets t 11 (named_bytes p.number p.node p.name p.value) → u ≡ sets s 0 (stop_bytes (stop_from p))
 unfolding cause_bytes named_bytes stop_bytes stop_from
 stop_stored s t u p a b =
-    two_stored (cause_bytes p.kind p.reason (optional p.located p.address)) (named_bytes p.number p.node p.name p.value) s t u 0 11 a b refl
+    two_stored (cause_bytes (kind_number p.kind) (reason_field p.reason) p.address) (named_bytes p.number p.node p.name p.value) s t u 0 11 a b refl
 
 -- ---- Counts
 

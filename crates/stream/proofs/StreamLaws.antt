@@ -9,7 +9,7 @@ use lib.Seq.{sets, sets-eq, length-sets, take_at, drop-drop, drop-append-add}
 use lib.Dec.{leb}
 use borrow.Author.Tests.{le-leb, lt-leb, leb-true, leb-false}
 use Rattle.layout.specs.Format.{Format, writes}
-use Rattle.stream.specs.Stream.{placed, advanced, most, Sent, Counted, Streamed}
+use Rattle.stream.specs.Stream.{placed, When, advanced, most, Sent, Counted, Streamed}
 
 -- ---- one piece
 
@@ -29,24 +29,22 @@ length_placed on out at piece = go (on && leb (at + length piece) (length out))
     go true = length-sets out at piece
     go false = refl
 
--- the code: whether a piece of n bytes goes in is b
-pub piece_room : (on : Bool) (at n l : ℕ) (b : Bool) → b ≡ (on && leb (at + n) l) → b ≡ true → at + n ≤ l
-piece_room true at n l b e h = leb-true (at + n) l (sym e ∙ h)
-piece_room false at n l b e h = absurd (false≢true (sym e ∙ h))
+-- the code: a piece that is put where there is room
+pub when_room : (b : Bool) (P Q : Type 0) → b ≡ true → P → When b P Q
+when_room true P Q e p = p
+when_room false P Q e p = absurd (false≢true e)
 
-placed_by : (on : Bool) (out piece : List ℕ) (at n : ℕ) (b t : Bool) → length piece ≡ n → b ≡ (on && leb (at + n) (length out)) → b ≡ t
-    → placed on out at piece ≡ cond t (sets out at piece) out
+pub sent : (on : Bool) (out piece out' : List ℕ) (at n r : ℕ) {P : Type 0} → length piece ≡ n → (r ≡ advanced at n) × When (on && leb (at + n) (length out)) P (out' ≡ out)
+    → (P → out' ≡ sets out at piece) → Sent on out at piece out' r
 unfolding placed
-placed_by on out piece at n b t l e h =
-    ap (λ (k : ℕ). cond (on && leb (at + k) (length out)) (sets out at piece) out) l ∙ ap (λ (u : Bool). cond u (sets out at piece) out) (sym e ∙ h)
-
-pub sent_none : (on : Bool) (out piece : List ℕ) (at n r : ℕ) (b : Bool) → length piece ≡ n → b ≡ (on && leb (at + n) (length out)) → b ≡ false → r ≡ advanced at n
-    → Sent on out at piece out r
-sent_none on out piece at n r b l e h a = record { part = sym (placed_by on out piece at n b false l e h); cursor = a ∙ ap (advanced at) (sym l) }
-
-pub sent_piece : (on : Bool) (out piece out' : List ℕ) (at n r : ℕ) (b : Bool) → length piece ≡ n → b ≡ (on && leb (at + n) (length out)) → b ≡ true
-    → out' ≡ sets out at piece → r ≡ advanced at n → Sent on out at piece out' r
-sent_piece on out piece out' at n r b l e h p a = record { part = p ∙ sym (placed_by on out piece at n b true l e h); cursor = a ∙ ap (advanced at) (sym l) }
+sent on out piece out' at n r {P} l w put = record {
+  part = go (on && leb (at + n) (length out)) w.1 ∙ ap (λ (k : ℕ). cond (on && leb (at + k) (length out)) (sets out at piece) out) (sym l);
+  cursor = w.0 ∙ ap (advanced at) (sym l);
+}
+  where
+    go : (b : Bool) → When b P (out' ≡ out) → out' ≡ cond b (sets out at piece) out
+    go true p = put p
+    go false q = q
 
 -- its test
 same_test : (a b : Bool) → (a ≡ true → b ≡ true) → (a ≡ false → b ≡ false) → a ≡ b

@@ -1,12 +1,13 @@
 -- The groups of fields that a piece is stored by: what the code's own functions store. Assumes nothing.
-use Rattle.std.specs.Prelude.{List, ◌++◌, ℕ, ◌*◌, take, drop}
-use Rattle.std.proofs.Math.Option.{Option}
+use Rattle.std.specs.Prelude.{cond, eqb, List, ◌++◌, ℕ, ◌*◌, take, drop, Option}
 use Rattle.value.specs.declared.Val.{Val}
 use Rattle.layout.specs.Number.{le}
 use Rattle.layout.specs.Format.{number, flag, pair}
 use Rattle.value.specs.Encoding.{val}
-use Rattle.definition.specs.Fields.{flag_and_number}
+use Rattle.definition.specs.Fields.{no_val, flag_and_number}
 use Rattle.definition.specs.Record.{WroteFields}
+use Rattle.stream.specs.declared.NotePiece.{NotePiece}
+use Rattle.stream.specs.declared.NotePiece.TheVariants.{Nothing, Fields, Written, Unknown, NotFollowed}
 
 -- "flag u8", then a u64: both 0 for none
 unfoldable pub flagged_bytes : Option ℕ → List ℕ
@@ -31,6 +32,14 @@ wrote_bytes w = (pair flag (pair (number 2) val)).write w
 -- its note up to the taken names
 unfoldable pub note_bytes : (note address count : ℕ) → Val → List ℕ
 note_bytes note address count v = le 1 note ++ (le 8 address ++ (le 4 count ++ val.write v))
+
+-- the same of a note that took so many names
+abbrev pub head_bytes : NotePiece → ℕ → List ℕ
+head_bytes Nothing taken = note_bytes 0 0 0 no_val
+head_bytes (Fields address count) taken = note_bytes 1 address count no_val
+head_bytes (Written address v) taken = note_bytes 2 address 0 v
+head_bytes Unknown taken = note_bytes 3 0 0 no_val
+head_bytes NotFollowed taken = note_bytes (cond (eqb taken 0) 4 5) 0 0 no_val
 
 -- the first names of a list that stands in bytes behind its own count
 unfoldable pub names_bytes : (count : ℕ) → List ℕ → List ℕ

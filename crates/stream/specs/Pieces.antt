@@ -1,21 +1,17 @@
 -- The bytes of a stream's pieces, from what the code is given. The formats are the definition's (document 01, "The record"). Assumes nothing.
-use Rattle.std.specs.Prelude.{Bool, true, false, List, ◌++◌, ℕ, drop}
-use Rattle.std.proofs.Math.Option.{Option, none, some}
+use Rattle.std.specs.Prelude.{List, ◌++◌, ℕ, drop, Option}
 use Rattle.value.specs.declared.Val.{Val}
 use Rattle.layout.specs.Number.{le, number_at}
 use Rattle.layout.specs.Format.{number, reads}
 use Rattle.definition.specs.Question.{Asked, address_of, size_of, read_at, call_to, Entry}
-use Rattle.definition.specs.Fields.{no_val, flag_and_number, written, entry}
-use Rattle.definition.specs.Record.{wrote_fields, NoteFields, StepFields, step_format}
+use Rattle.definition.specs.Fields.{flag_and_number, written, entry}
+use Rattle.definition.specs.Act.{Note, no_note, fields_written, value_written, result_unknown, not_followed}
+use Rattle.definition.specs.Record.{wrote_fields, NoteFields, note_fields, StepFields, step_format}
 use Rattle.stream.specs.declared.Symbol.{Symbol}
 use Rattle.stream.specs.declared.Symbol.TheVariants.{AddressOf, SizeOf}
 use Rattle.stream.specs.declared.NotePiece.{NotePiece}
+use Rattle.stream.specs.declared.NotePiece.TheVariants.{Nothing, Fields, Written, Unknown, NotFollowed}
 use Rattle.stream.specs.declared.StepPiece.{StepPiece}
-
--- what is there if its flag is set
-abbrev pub optional : {A : Type 0} → Bool → A → Option A
-optional true a = some a
-optional false a = none
 
 -- ---- questions
 
@@ -48,22 +44,26 @@ unfoldable pub step_bytes : StepFields → List ℕ
 step_bytes f = step_format.write f
 
 -- how many names were taken, and which: "count u16 of taken names, each u16", or none where there are none to tell
-abbrev pub taken_count : (taken : Bool) → List ℕ → ℕ
-taken_count true names = number_at names 0 2
-taken_count false names = 0
+abbrev pub taken_count : NotePiece → List ℕ → ℕ
+taken_count Nothing names = 0
+taken_count (Fields address count) names = 0
+taken_count (Written address v) names = 0
+taken_count Unknown names = 0
+taken_count NotFollowed names = number_at names 0 2
 
-unfoldable pub taken_names : (taken : Bool) → List ℕ → List ℕ
-taken_names taken names = (reads (number 2) (taken_count taken names) (drop 2 names)).0
+unfoldable pub taken_names : NotePiece → List ℕ → List ℕ
+taken_names note names = (reads (number 2) (taken_count note names) (drop 2 names)).0
+
+-- the definition's note, and its fields
+abbrev pub note_of : NotePiece → List ℕ → Note
+note_of Nothing names = no_note
+note_of (Fields address count) names = fields_written address count
+note_of (Written address v) names = value_written address v
+note_of Unknown names = result_unknown
+note_of NotFollowed names = not_followed (taken_names NotFollowed names)
 
 unfoldable pub note_from : NotePiece → List ℕ → NoteFields
-note_from n names = (n.kind, (n.address, (n.count, (n.value, taken_names n.taken names))))
-
--- no note
-abbrev pub none_noted : NotePiece
-none_noted = record { kind = 0; address = 0; count = 0; value = no_val; taken = false }
+note_from note names = note_fields (note_of note names)
 
 unfoldable pub step_from : StepPiece → NotePiece → List ℕ → StepFields
-step_from s note names =
-    let address = flag_and_number (optional s.located s.address) in
-    let wrote = wrote_fields (optional s.wrote (s.name, s.value)) in
-    (address, (s.block, (s.statement, (wrote, note_from note names))))
+step_from s note names = (flag_and_number s.address, (s.block, (s.statement, (wrote_fields s.wrote, note_from note names))))

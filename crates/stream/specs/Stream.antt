@@ -1,6 +1,6 @@
 -- A stream of pieces in a part of the record buffer: steps, or questions. "Each body written through its own part of the record buffer". A piece is
 -- written only where it fits wholly behind the cursor; the cursor goes on all the same, so that a pass can only count. Assumes nothing.
-use Rattle.std.specs.Prelude.{◌≡◌, Bool, cond, ◌&&◌, List, ◌++◌, ℕ, ◌+◌, ◌-◌, ◌^◌, ◌≤◌, ◌<◌, min, length, drop, leb}
+use Rattle.std.specs.Prelude.{◌≡◌, Bool, true, false, cond, ◌&&◌, List, ◌++◌, ℕ, ◌+◌, ◌-◌, ◌^◌, ◌≤◌, ◌<◌, min, length, drop, leb}
 use Rattle.std.proofs.lemmas.List.Edits.{sets}
 
 -- the part after a piece: with the piece at the cursor if the stream is on and the piece fits, else as it was
@@ -14,6 +14,11 @@ most = 2 ^ 64 - 1
 -- the cursor after a piece of n bytes
 unfoldable pub advanced : ℕ → ℕ → ℕ
 advanced at n = min (at + n) most
+
+-- one thing where a test holds, and another where it doesn't
+abbrev pub When : Bool → Type 0 → Type 0 → Type 0
+When true P Q = P
+When false P Q = Q
 
 -- what a writer of a piece does: out and at become out' and at'
 pub record Sent (on : Bool) (out : List ℕ) (at : ℕ) (piece out' : List ℕ) (at' : ℕ) : Type 0 where

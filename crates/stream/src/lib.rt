@@ -1,17 +1,19 @@
 // Writers of the pieces of a record, each given a part of the record buffer.
 #![tactic(auto)]
 
-ghost use Rattle.std.specs.Prelude.{◌≡◌, [], ◌∷◌, cond, ◌&&◌, ◌+◌, ◌*◌, ◌≤◌, ◌<◌, length, take, leb};
+ghost use Rattle.std.specs.Prelude.{◌≡◌, [], ◌∷◌, ◌&&◌, ◌+◌, ◌*◌, ◌≤◌, ◌<◌, length, take, leb};
+ghost use Rattle.std.specs.Fn.{FnOnceTakesAtMut, FnOnceReturnsAtMut};
 ghost use Rattle.std.proofs.lemmas.List.Edits.{sets};
 ghost use Rattle.layout.specs.Number.{le};
-ghost use Rattle.definition.specs.Fields.{no_val, flag_and_number, code_of};
+ghost use Rattle.definition.specs.Fields.{no_val, code_of};
 ghost use Rattle.definition.specs.Record.{wrote_fields, counts_body};
-ghost use Rattle.stream.specs.Stream.{advanced, Sent};
-ghost use Rattle.stream.specs.Pieces.{optional, asked_by, question_bytes, symbol_entry, read_entry, call_bytes, taken_count, step_bytes, none_noted, step_from};
-ghost use Rattle.stream.specs.Groups.{flagged_bytes, span_bytes, callee_bytes, place_bytes, wrote_bytes, note_bytes, names_bytes, cause_bytes, named_bytes};
-ghost use Rattle.stream.specs.Bodies.{stop_bytes, stop_from, stop_size, stop_place, pairs_of, lengths_of, last_end};
+ghost use Rattle.stream.specs.Stream.{advanced, When, Sent};
+ghost use Rattle.stream.specs.Pieces.{asked_by, question_bytes, symbol_entry, read_entry, call_bytes, taken_count, step_bytes, step_from};
+ghost use Rattle.stream.specs.Groups.{flagged_bytes, span_bytes, callee_bytes, place_bytes, wrote_bytes, note_bytes, head_bytes, names_bytes, cause_bytes, named_bytes};
+ghost use Rattle.stream.specs.declared.NotePiece.TheVariants.{Nothing};
+ghost use Rattle.stream.specs.Bodies.{kind_number, reason_number, reason_at, reason_field, stop_bytes, stop_from, stop_size, stop_place, pairs_of, lengths_of, last_end};
 
-use layout::{put8, put16, put32, put64};
+use layout::put;
 use value::Val;
 use value::encoding::put_val;
 
@@ -36,6 +38,18 @@ fn has_room(out: &[u8], at: u64, on: bool, n: u64) -> bool
     on & (at <= len - n)
 }
 
+// A piece of n bytes goes into a stream, where it has room: where the cursor stands then.
+fn send<F: FnOnce(&mut [u8])>(out: &mut [u8], at: u64, on: bool, n: u64, put: F) -> u64
+    requires { at + n ≤ length out.old → FnOnceTakesAtMut F.FnOnce put out.old }
+    ensures { (result ≡ advanced at n) × When (on && leb (at + n) (length out.old)) (FnOnceReturnsAtMut F.FnOnce put out.old tt out.new) (out.new ≡ out.old) }
+{
+    let next = advance(at, n);
+    if has_room(out, at, on, n) {
+        put(out);
+    }
+    next
+}
+
 // ---- parts of pieces, each stored at an index
 
 // What stands where there is no value: zero throughout.
@@ -50,47 +64,26 @@ pub fn no_value() -> Val
     }
 }
 
-// The number of an answer that may be none.
-fn number_if(known: bool, number: u64) -> u64
-    ensures { result ≡ (flag_and_number (optional known number)).1 }
-{
-    if known { number } else { 0 }
-}
-
-// A flag, and the number that is there if it is set.
-fn put_flagged(part: &mut [u8], at: usize, known: bool, number: u64)
+// A number that may be none: a flag, and the number or 0.
+fn put_flagged(part: &mut [u8], at: usize, number: Option<u64>)
     requires { at + 9 ≤ length part.old }
-    ensures { part.new ≡ sets part.old at (flagged_bytes (optional known number)) }
+    ensures { part.new ≡ sets part.old at (flagged_bytes number) }
 {
-    put8(part, at, known as u64);
-    put64(part, at + 1, number_if(known, number));
+    put::<1>(part, at, number.is_some() as u64);
+    put::<8>(part, at + 1, number.unwrap_or(0));
 }
 
-// The lowest bytes of a number, so many, one by one.
-fn put_each(part: &mut [u8], at: usize, count: usize, number: u64)
-    requires { at + count ≤ length part.old }
-    ensures { part.new ≡ sets part.old at (le count number) }
-{
-    let mut i = 0;
-    let mut rest = number;
-    while i < count {
-        part[at + i] = (rest % 256) as u8;
-        rest = rest / 256;
-        i += 1;
-    }
-}
-
-// The same, with one store where they are as many as a store takes.
+// The lowest bytes of a number, so many, with one store where they are as many as a store takes.
 fn put_low(part: &mut [u8], at: usize, count: usize, number: u64)
-    requires { at + count ≤ length part.old }
+    requires { (at + count ≤ length part.old) × (count ≤ 8) }
     ensures { part.new ≡ sets part.old at (le count number) }
 {
     match count {
-        1 => put8(part, at, number),
-        2 => put16(part, at, number),
-        4 => put32(part, at, number),
-        8 => put64(part, at, number),
-        _ => put_each(part, at, count, number),
+        1 => put::<1>(part, at, number),
+        2 => put::<2>(part, at, number),
+        4 => put::<4>(part, at, number),
+        8 => put::<8>(part, at, number),
+        _ => layout::put_number(part, at, count, number),
     }
 }
 
@@ -99,35 +92,37 @@ fn put_bytes(part: &mut [u8], at: usize, from: &[u8], n: usize)
     requires { (at + n ≤ length part.old) × (n ≤ length from.now) }
     ensures { part.new ≡ sets part.old at (take n from.now) }
 {
-    layout::copy(from, &mut part[at..], n);
+    part[at..at + n].copy_from_slice(&from[..n]);
 }
 
 // ---- questions
 
 // What is asked of a symbol.
-#[derive(Clone, Copy)]
+#[derive(Clone, Copy, PartialEq, Eq)]
 pub enum Symbol {
     AddressOf,
     SizeOf,
 }
 
 // The record's number of a question.
-fn code(kind: Symbol) -> u64
-    ensures { result ≡ code_of (asked_by kind) }
-{
-    match kind {
-        Symbol::AddressOf => 1,
-        Symbol::SizeOf => 2,
+impl From<Symbol> for u64 {
+    ghost from_gives = { λ kind n. n ≡ code_of (asked_by kind) };
+
+    fn from(kind: Symbol) -> u64 {
+        match kind {
+            Symbol::AddressOf => 1,
+            Symbol::SizeOf => 2,
+        }
     }
 }
 
-fn put_symbol(part: &mut [u8], at: usize, kind: Symbol, name: usize, known: bool, number: u64)
+fn put_symbol(part: &mut [u8], at: usize, kind: Symbol, name: usize, answer: Option<u64>)
     requires { at + 12 ≤ length part.old }
-    ensures { part.new ≡ sets part.old at (question_bytes (symbol_entry kind name (optional known number))) }
+    ensures { part.new ≡ sets part.old at (question_bytes (symbol_entry kind name answer)) }
 {
-    put8(part, at, code(kind));
-    put16(part, at + 1, name as u64);
-    put_flagged(part, at + 3, known, number);
+    put::<1>(part, at, u64::from(kind));
+    put::<2>(part, at + 1, name as u64);
+    put_flagged(part, at + 3, answer);
 }
 
 // `address_of` or `size_of` of a name, with the answer.
@@ -137,17 +132,17 @@ pub fn question_symbol(
     on: bool,
     kind: Symbol,
     name: usize,
-    known: bool,
-    number: u64,
+    answer: Option<u64>,
 ) -> u64
-    ensures { Sent on out.old at (question_bytes (symbol_entry kind name (optional known number))) out.new result }
+    ensures { Sent on out.old at (question_bytes (symbol_entry kind name answer)) out.new result }
 {
-    let next = advance(at, 12);
-    if has_room(out, at, on, 12) {
-        put_symbol(out, at as usize, kind, name, known, number);
-        return next;
-    }
-    next
+    send(
+        out,
+        at,
+        on,
+        12,
+        |part| put_symbol(part, at as usize, kind, name, answer),
+    )
 }
 
 // A `read` up to its answer.
@@ -155,17 +150,17 @@ fn put_span(part: &mut [u8], at: usize, address: u64, size: u64)
     requires { at + 10 ≤ length part.old }
     ensures { part.new ≡ sets part.old at (span_bytes address size) }
 {
-    put8(part, at, 3);
-    put64(part, at + 1, address);
-    put8(part, at + 9, size);
+    put::<1>(part, at, 3);
+    put::<8>(part, at + 1, address);
+    put::<1>(part, at + 9, size);
 }
 
 fn put_read(part: &mut [u8], at: usize, address: u64, size: u64, count: u64, number: u64)
-    requires { at + (11 + count) ≤ length part.old }
+    requires { (at + (11 + count) ≤ length part.old) × (count ≤ 8) }
     ensures { part.new ≡ sets part.old at (question_bytes (read_entry address size count number)) }
 {
     put_span(part, at, address, size);
-    put8(part, at + 10, count);
+    put::<1>(part, at + 10, count);
     put_low(part, at + 11, count as usize, number);
 }
 
@@ -182,13 +177,13 @@ pub fn question_read(
     requires { count ≤ 8 }
     ensures { Sent on out.old at (question_bytes (read_entry address size count number)) out.new result }
 {
-    let n = 11 + count;
-    let next = advance(at, n);
-    if has_room(out, at, on, n) {
-        put_read(out, at as usize, address, size, count, number);
-        return next;
-    }
-    next
+    send(
+        out,
+        at,
+        on,
+        11 + count,
+        |part| put_read(part, at as usize, address, size, count, number),
+    )
 }
 
 // A `call` up to its values.
@@ -196,10 +191,10 @@ fn put_callee(part: &mut [u8], at: usize, name: usize, address: u64, depth: u64)
     requires { at + 15 ≤ length part.old }
     ensures { part.new ≡ sets part.old at (callee_bytes name address depth) }
 {
-    put8(part, at, 4);
-    put16(part, at + 1, name as u64);
-    put64(part, at + 3, address);
-    put32(part, at + 11, depth);
+    put::<1>(part, at, 4);
+    put::<2>(part, at + 1, name as u64);
+    put::<8>(part, at + 3, address);
+    put::<4>(part, at + 11, depth);
 }
 
 fn put_call(
@@ -215,9 +210,9 @@ fn put_call(
     ensures { part.new ≡ sets part.old at (call_bytes name address depth count (take (14 * count) values.now)) }
 {
     put_callee(part, at, name, address, depth);
-    put8(part, at + 15, count as u64);
+    put::<1>(part, at + 15, count as u64);
     put_bytes(part, at + 16, values, 14 * count);
-    put8(part, at + 16 + 14 * count, 0);
+    put::<1>(part, at + 16 + 14 * count, 0);
 }
 
 // `call`, with the values in bytes as the record has them. It has no answer.
@@ -235,86 +230,83 @@ pub fn question_call(
     ensures { Sent on out.old at (call_bytes name address depth count (take (14 * count) values.now)) out.new result }
 {
     let n = 17 + 14 * count as u64;
-    let next = advance(at, n);
-    if has_room(out, at, on, n) {
-        put_call(out, at as usize, name, address, depth, values, count);
-        return next;
-    }
-    next
+    send(
+        out,
+        at,
+        on,
+        n,
+        |part| put_call(part, at as usize, name, address, depth, values, count),
+    )
 }
 
 // ---- steps
 
-// A step's note by the record's number, with what it tells, and whether it tells of taken names. These stand beside it.
+// A step's note. The names that a call took which is not followed stand beside it.
 #[derive(Clone, Copy)]
-pub struct NotePiece {
-    pub kind: u64,
-    pub address: u64,
-    pub count: u64,
-    pub value: Val,
-    pub taken: bool,
+pub enum NotePiece {
+    Nothing,
+    Fields(u64, u64),
+    Written(u64, Val),
+    Unknown,
+    NotFollowed,
 }
 
-// No note.
-pub fn no_note() -> NotePiece
-    ensures { result ≡ none_noted }
-{
-    NotePiece {
-        kind: 0,
-        address: 0,
-        count: 0,
-        value: no_value(),
-        taken: false,
-    }
-}
-
-// One statement run: an address if it is located, a name and a value if it wrote. Its note stands beside it.
+// One statement run: its address, if it has one, and what it wrote. Its note stands beside it.
 #[derive(Clone, Copy)]
 pub struct StepPiece {
-    pub located: bool,
-    pub address: u64,
+    pub address: Option<u64>,
     pub block: u64,
     pub statement: u64,
-    pub wrote: bool,
-    pub name: u64,
-    pub value: Val,
-}
-
-fn value_if(known: bool, v: Val) -> Val
-    ensures { result ≡ cond known v no_val }
-{
-    if known { v } else { no_value() }
+    pub wrote: Option<(usize, Val)>,
 }
 
 // Where a step was.
 fn put_place(part: &mut [u8], at: usize, s: StepPiece)
     requires { at + 17 ≤ length part.old }
-    ensures { part.new ≡ sets part.old at (place_bytes (optional s.located s.address) s.block s.statement) }
+    ensures { part.new ≡ sets part.old at (place_bytes s.address s.block s.statement) }
 {
-    put_flagged(part, at, s.located, s.address);
-    put32(part, at + 9, s.block);
-    put32(part, at + 13, s.statement);
+    put_flagged(part, at, s.address);
+    put::<4>(part, at + 9, s.block);
+    put::<4>(part, at + 13, s.statement);
 }
 
 // What it wrote.
-fn put_wrote(part: &mut [u8], at: usize, s: StepPiece)
+fn put_wrote(part: &mut [u8], at: usize, wrote: Option<(usize, Val)>)
     requires { at + 17 ≤ length part.old }
-    ensures { part.new ≡ sets part.old at (wrote_bytes (wrote_fields (optional s.wrote (s.name, s.value)))) }
+    ensures { part.new ≡ sets part.old at (wrote_bytes (wrote_fields wrote)) }
 {
-    put8(part, at, s.wrote as u64);
-    put16(part, at + 1, number_if(s.wrote, s.name));
-    put_val(part, at + 3, value_if(s.wrote, s.value));
+    let (name, value) = wrote.unwrap_or((0, no_value()));
+    put::<1>(part, at, wrote.is_some() as u64);
+    put::<2>(part, at + 1, name as u64);
+    put_val(part, at + 3, value);
 }
 
-// Its note up to the taken names.
-fn put_note(part: &mut [u8], at: usize, n: NotePiece)
+// A note's fields up to the taken names, the first its number.
+fn put_fields(part: &mut [u8], at: usize, kind: u64, address: u64, count: u64, value: Val)
     requires { at + 27 ≤ length part.old }
-    ensures { part.new ≡ sets part.old at (note_bytes n.kind n.address n.count n.value) }
+    ensures { part.new ≡ sets part.old at (note_bytes kind address count value) }
 {
-    put8(part, at, n.kind);
-    put64(part, at + 1, n.address);
-    put32(part, at + 9, n.count);
-    put_val(part, at + 13, n.value);
+    put::<1>(part, at, kind);
+    put::<8>(part, at + 1, address);
+    put::<4>(part, at + 9, count);
+    put_val(part, at + 13, value);
+}
+
+// Its note up to the taken names, which are so many.
+fn put_note(part: &mut [u8], at: usize, note: NotePiece, count: usize)
+    requires { at + 27 ≤ length part.old }
+    ensures { part.new ≡ sets part.old at (head_bytes note count) }
+{
+    match note {
+        NotePiece::Nothing => put_fields(part, at, 0, 0, 0, no_value()),
+        NotePiece::Fields(address, n) => put_fields(part, at, 1, address, n, no_value()),
+        NotePiece::Written(address, v) => put_fields(part, at, 2, address, 0, v),
+        NotePiece::Unknown => put_fields(part, at, 3, 0, 0, no_value()),
+        NotePiece::NotFollowed => {
+            let kind = if count == 0 { 4 } else { 5 };
+            put_fields(part, at, kind, 0, 0, no_value());
+        }
+    }
 }
 
 // The first of the names that stand in bytes behind their count.
@@ -322,93 +314,181 @@ fn put_names(part: &mut [u8], at: usize, names: &[u8], count: usize)
     requires { (at + (2 + 2 * count) ≤ length part.old) × (2 + 2 * count ≤ length names.now) }
     ensures { part.new ≡ sets part.old at (names_bytes count names.now) }
 {
-    put16(part, at, count as u64);
+    put::<2>(part, at, count as u64);
     put_bytes(part, at + 2, &names[2..], 2 * count);
 }
 
 fn put_step(part: &mut [u8], at: usize, s: StepPiece, note: NotePiece, names: &[u8], count: usize)
-    requires { (at + (63 + 2 * count) ≤ length part.old) × ((2 + 2 * count ≤ length names.now) × (count ≡ taken_count note.taken names.now)) }
+    requires { (at + (63 + 2 * count) ≤ length part.old) × ((2 + 2 * count ≤ length names.now) × (count ≡ taken_count note names.now)) }
     ensures { part.new ≡ sets part.old at (step_bytes (step_from s note names.now)) }
 {
     put_place(part, at, s);
-    put_wrote(part, at + 17, s);
-    put_note(part, at + 34, note);
+    put_wrote(part, at + 17, s.wrote);
+    put_note(part, at + 34, note, count);
     put_names(part, at + 61, names, count);
 }
 
 // The same without a note. Most steps have none, and zeros that are known beforehand cost less.
 fn put_plain(part: &mut [u8], at: usize, s: StepPiece)
     requires { at + 63 ≤ length part.old }
-    ensures { part.new ≡ sets part.old at (step_bytes (step_from s none_noted [])) }
+    ensures { part.new ≡ sets part.old at (step_bytes (step_from s Nothing [])) }
 {
     put_place(part, at, s);
-    put_wrote(part, at + 17, s);
-    put_note(part, at + 34, no_note());
-    put16(part, at + 61, 0);
+    put_wrote(part, at + 17, s.wrote);
+    put_fields(part, at + 34, 0, 0, 0, no_value());
+    put::<2>(part, at + 61, 0);
 }
 
 // How many names a step took.
-fn taken_count(taken: bool, names: &[u8]) -> usize
+fn taken_count(note: NotePiece, names: &[u8]) -> usize
     requires { 2 ≤ length names.now }
-    ensures { (result ≡ taken_count taken names.now) × (result < 65536) }
+    ensures { (result ≡ taken_count note names.now) × (result < 65536) }
 {
-    if taken {
-        layout::get16(names, 0) as usize
-    } else {
-        0
+    match note {
+        NotePiece::NotFollowed => layout::get::<2>(names, 0) as usize,
+        _ => 0,
     }
 }
 
 // A step. The taken names stand in bytes as the record has them, behind their count.
 pub fn step(out: &mut [u8], at: u64, on: bool, s: StepPiece, note: NotePiece, names: &[u8]) -> u64
-    requires { 2 + 2 * taken_count note.taken names.now ≤ length names.now }
+    requires { 2 + 2 * taken_count note names.now ≤ length names.now }
     ensures { Sent on out.old at (step_bytes (step_from s note names.now)) out.new result }
 {
-    let count = taken_count(note.taken, names);
+    let count = taken_count(note, names);
     let n = 63 + 2 * count as u64;
-    let next = advance(at, n);
-    if has_room(out, at, on, n) {
-        put_step(out, at as usize, s, note, names, count);
-        return next;
-    }
-    next
+    send(
+        out,
+        at,
+        on,
+        n,
+        |part| put_step(part, at as usize, s, note, names, count),
+    )
 }
 
 // A step without a note.
 pub fn plain_step(out: &mut [u8], at: u64, on: bool, s: StepPiece) -> u64
-    ensures { Sent on out.old at (step_bytes (step_from s none_noted [])) out.new result }
+    ensures { Sent on out.old at (step_bytes (step_from s Nothing [])) out.new result }
 {
-    let next = advance(at, 63);
-    if has_room(out, at, on, 63) {
-        put_plain(out, at as usize, s);
-        return next;
-    }
-    next
+    send(out, at, on, 63, |part| put_plain(part, at as usize, s))
 }
 
 // ---- the bodies that are written at once, each at the front of its part
 
-// Why a run stopped, by the record's numbers: an address if it is located.
+// What a run stopped for.
+#[derive(Clone, Copy, PartialEq, Eq)]
+pub enum Kind {
+    Returned,
+    ReturnedNothing,
+    Steps,
+    Unknown,
+    NoBlock,
+    NoBlocks,
+    NoReturn,
+    Halted,
+}
+
+// The record's number of a stop.
+impl From<Kind> for u64 {
+    ghost from_gives = { λ kind n. n ≡ kind_number kind };
+
+    fn from(kind: Kind) -> u64 {
+        match kind {
+            Kind::Returned => 0,
+            Kind::ReturnedNothing => 1,
+            Kind::Steps => 2,
+            Kind::Unknown => 3,
+            Kind::NoBlock => 4,
+            Kind::NoBlocks => 5,
+            Kind::NoReturn => 6,
+            Kind::Halted => 7,
+        }
+    }
+}
+
+// Why an evaluation ended short.
+#[derive(Clone, Copy, PartialEq, Eq)]
+pub enum Reason {
+    BranchUnknown,
+    SwitchUnknown,
+    NoCase,
+    StructTo,
+    UnknownAddress,
+    UnknownValue,
+    NoWidth,
+    StoreTo,
+    ByZero,
+}
+
+// The record's number of a reason.
+impl From<Reason> for u64 {
+    ghost from_gives = { λ reason n. n ≡ reason_number reason };
+
+    fn from(reason: Reason) -> u64 {
+        match reason {
+            Reason::BranchUnknown => 1,
+            Reason::SwitchUnknown => 2,
+            Reason::NoCase => 3,
+            Reason::StructTo => 4,
+            Reason::UnknownAddress => 5,
+            Reason::UnknownValue => 6,
+            Reason::NoWidth => 7,
+            Reason::StoreTo => 8,
+            Reason::ByZero => 9,
+        }
+    }
+}
+
+impl Reason {
+    // The reason of a number, if it is one's.
+    pub fn numbered(number: u64) -> Option<Reason>
+        ensures { result ≡ reason_at number }
+    {
+        match number {
+            1 => Some(Reason::BranchUnknown),
+            2 => Some(Reason::SwitchUnknown),
+            3 => Some(Reason::NoCase),
+            4 => Some(Reason::StructTo),
+            5 => Some(Reason::UnknownAddress),
+            6 => Some(Reason::UnknownValue),
+            7 => Some(Reason::NoWidth),
+            8 => Some(Reason::StoreTo),
+            9 => Some(Reason::ByZero),
+            _ => None,
+        }
+    }
+}
+
+// Why a run stopped, in the record's fields.
 #[derive(Clone, Copy)]
 pub struct StopPiece {
-    pub kind: u64,
-    pub reason: u64,
-    pub located: bool,
-    pub address: u64,
+    pub kind: Kind,
+    pub reason: Option<Reason>,
+    pub address: Option<u64>,
     pub number: u64,
     pub node: u64,
     pub name: u64,
     pub value: Val,
 }
 
+// A reason's number, 0 for none.
+fn number_of(reason: Option<Reason>) -> u64
+    ensures { result ≡ reason_field reason }
+{
+    match reason {
+        Some(r) => u64::from(r),
+        None => 0,
+    }
+}
+
 // A stop up to its address.
 fn put_cause(part: &mut [u8], s: StopPiece)
     requires { 11 ≤ length part.old }
-    ensures { part.new ≡ sets part.old 0 (cause_bytes s.kind s.reason (optional s.located s.address)) }
+    ensures { part.new ≡ sets part.old 0 (cause_bytes (kind_number s.kind) (reason_field s.reason) s.address) }
 {
-    put8(part, 0, s.kind);
-    put8(part, 1, s.reason);
-    put_flagged(part, 2, s.located, s.address);
+    put::<1>(part, 0, u64::from(s.kind));
+    put::<1>(part, 1, number_of(s.reason));
+    put_flagged(part, 2, s.address);
 }
 
 // The rest of it.
@@ -416,9 +496,9 @@ fn put_named(part: &mut [u8], s: StopPiece)
     requires { stop_size ≤ length part.old }
     ensures { part.new ≡ sets part.old 11 (named_bytes s.number s.node s.name s.value) }
 {
-    put64(part, 11, s.number);
-    put32(part, 19, s.node);
-    put16(part, 23, s.name);
+    put::<8>(part, 11, s.number);
+    put::<4>(part, 19, s.node);
+    put::<2>(part, 23, s.name);
     put_val(part, 25, s.value);
 }
 
@@ -436,9 +516,9 @@ pub fn counts(part: &mut [u8], entered: u64, recorded: u64)
     requires { (12 ≤ length part.old) × (entered + recorded < 4294967296) }
     ensures { part.new ≡ sets part.old 0 (counts_body entered recorded) }
 {
-    put32(part, 0, entered);
-    put32(part, 4, recorded);
-    put32(part, 8, entered + recorded);
+    put::<4>(part, 0, entered);
+    put::<4>(part, 4, recorded);
+    put::<4>(part, 8, entered + recorded);
 }
 
 // The lengths of the bodies whose length is not fixed.
@@ -455,8 +535,8 @@ fn put_pair(part: &mut [u8], at: usize, offset: u64, n: u64) -> u64
     requires { (at + 8 ≤ length part.old) × (offset + n < 4294967296) }
     ensures { (part.new ≡ sets part.old at (pairs_of offset (n ∷ []))) × (result ≡ offset + n) }
 {
-    put32(part, at, offset);
-    put32(part, at + 4, n);
+    put::<4>(part, at, offset);
+    put::<4>(part, at + 4, n);
     offset + n
 }
 

@@ -2,7 +2,7 @@
 use mathlib.Core.Path.{◌≡◌, refl, sym, ap, ◌∙◌, subst}
 use mathlib.Core.Bool.{Bool, true, false, cond}
 use mathlib.Core.List.{List, [], ◌∷◌, ◌++◌, append-nil}
-use mathlib.Core.Option.{Option, none, some}
+use Rattle.std.specs.Prelude.{Option, None, Some}
 use Prim.Native.Nat.{ℕ, zero, suc, ◌+◌, ◌*◌, ◌≤◌, ◌<◌}
 use native.Mathlib.Omega.{arith}
 use lib.Dec.{eqb, lit<}
@@ -62,8 +62,8 @@ stop_of f =
     let kind = f.0 in
     let address = flagged f.1.1.0.0 f.1.1.0.1 in
     let number = f.1.1.1.0 in
-    cond (eqb kind 0) (Returned (some f.1.1.1.1.1.1))
-    (cond (eqb kind 1) (Returned none)
+    cond (eqb kind 0) (Returned (Some f.1.1.1.1.1.1))
+    (cond (eqb kind 1) (Returned None)
     (cond (eqb kind 2) (Steps number)
     (cond (eqb kind 3) (Unknown address (why_of f))
     (cond (eqb kind 4) (NoBlock number)
@@ -71,12 +71,12 @@ stop_of f =
     (cond (eqb kind 6) (NoReturn address) (Halted address number)))))))
 
 address_back : (o : Option ℕ) → flagged (flag_and_number o).0 (flag_and_number o).1 ≡ o
-address_back none = refl
-address_back (some a) = refl
+address_back None = refl
+address_back (Some a) = refl
 
 wrote_back : (o : Option (ℕ × Val)) → written_if (wrote_fields o).0 (wrote_fields o).1 ≡ o
-wrote_back none = refl
-wrote_back (some w) = refl
+wrote_back None = refl
+wrote_back (Some w) = refl
 
 note_back : (x : Note) → note_of (note_fields x) ≡ x
 note_back no_note = refl
@@ -107,8 +107,8 @@ unknown_back at (store_to n) = ap (λ (o : Option ℕ). Unknown o (store_to n)) 
 unknown_back at by_zero = ap (λ (o : Option ℕ). Unknown o by_zero) (address_back at)
 
 stop_back : (x : Stop) → stop_of (stop_fields x) ≡ x
-stop_back (Returned none) = refl
-stop_back (Returned (some v)) = refl
+stop_back (Returned None) = refl
+stop_back (Returned (Some v)) = refl
 stop_back (Steps l) = refl
 stop_back (Unknown at x) = unknown_back at x
 stop_back (NoBlock b) = refl
@@ -149,8 +149,8 @@ variable_sound : Sound (pair (number 2) val) (λ (p : ℕ × Val). Below 2 p.0 �
 variable_sound = pair_sound (number_sound 2) val_sound
 
 address_fit : (o : Option ℕ) → OptionFits o → AddressFit (flag_and_number o)
-address_fit none h = (lit< tt, lit< tt)
-address_fit (some a) h = (lit< tt, h)
+address_fit None h = (lit< tt, lit< tt)
+address_fit (Some a) h = (lit< tt, h)
 
 no_val_lem : ValFits no_val
 no_val_lem = (lit< tt, lit< tt)
@@ -164,8 +164,8 @@ module _ (n : ℕ) (few : n ≤ 512) where
   names_fit (x ∷ xs) h = (name_fit x h.0, names_fit xs h.1)
 
   wrote_fit : (o : Option (ℕ × Val)) → WroteFits n o → Below 2 (wrote_fields o).1.0 × ValFits (wrote_fields o).1.1
-  wrote_fit none h = (lit< tt, no_val_lem)
-  wrote_fit (some w) h = (name_fit w.0 h.0, h.1)
+  wrote_fit None h = (lit< tt, no_val_lem)
+  wrote_fit (Some w) h = (name_fit w.0 h.0, h.1)
 
   note_fit : (x : Note) → NoteFits n x → NoteFieldsFit (note_fields x)
   note_fit no_note h = (lit< tt, (lit< tt, (lit< tt, (no_val_lem, (lit< tt, tt)))))
@@ -190,8 +190,8 @@ module _ (n : ℕ) (few : n ≤ 512) where
   unknown_fit at by_zero a h = (lit< tt, (lit< tt, (address_fit at a, (lit< tt, (lit< tt, (lit< tt, no_val_lem))))))
 
   stop_fit : (x : Stop) → StopFits n x → StopFieldsFit (stop_fields x)
-  stop_fit (Returned none) h = (lit< tt, (lit< tt, ((lit< tt, lit< tt), (lit< tt, (lit< tt, (lit< tt, no_val_lem))))))
-  stop_fit (Returned (some v)) h = (lit< tt, (lit< tt, ((lit< tt, lit< tt), (lit< tt, (lit< tt, (lit< tt, h))))))
+  stop_fit (Returned None) h = (lit< tt, (lit< tt, ((lit< tt, lit< tt), (lit< tt, (lit< tt, (lit< tt, no_val_lem))))))
+  stop_fit (Returned (Some v)) h = (lit< tt, (lit< tt, ((lit< tt, lit< tt), (lit< tt, (lit< tt, (lit< tt, h))))))
   stop_fit (Steps l) h = (lit< tt, (lit< tt, ((lit< tt, lit< tt), (h, (lit< tt, (lit< tt, no_val_lem))))))
   stop_fit (Unknown at x) h = unknown_fit at x h.0 h.1
   stop_fit (NoBlock b) h = (lit< tt, (lit< tt, ((lit< tt, lit< tt), (h, (lit< tt, (lit< tt, no_val_lem))))))
@@ -236,9 +236,9 @@ module _ (n : ℕ) where
   each_read s i (suc c) (suc k) h l = subst (λ (j : ℕ). number_at s j 2 < n) (omega arith) (each_read s (i + 2) c k h.1 (omega arith))
 
   wrote_there : (o : Option (ℕ × Val)) (f x : ℕ) → WroteFits n o → bool_of f ≡ (wrote_fields o).0 → x ≡ (wrote_fields o).1.0 → (f ≡ 0 → ⊥) → x < n
-  wrote_there none zero x h e g z = absurd (z refl)
-  wrote_there none (suc f) x h e g z = absurd (omega (arith, ap {B = ℕ} (λ (b : Bool). elim b [ true ↦ 1 | false ↦ 0 ]) e))
-  wrote_there (some w) f x h e g z = subst (λ (y : ℕ). y < n) (sym g) h.0
+  wrote_there None zero x h e g z = absurd (z refl)
+  wrote_there None (suc f) x h e g z = absurd (omega (arith, ap {B = ℕ} (λ (b : Bool). elim b [ true ↦ 1 | false ↦ 0 ]) e))
+  wrote_there (Some w) f x h e g z = subst (λ (y : ℕ). y < n) (sym g) h.0
 
 -- ---- a step
 
@@ -289,8 +289,8 @@ why_there n at (store_to k) h e = absurd (omega (arith, e))
 why_there n at by_zero h e = absurd (omega (arith, e))
 
 stop_names : (n : ℕ) (x : Stop) → StopFits n x → (stop_fields x).1.0 ≡ 7 → (stop_fields x).1.1.1.1.1.0 < n
-stop_names n (Returned none) h e = absurd (omega (arith, e))
-stop_names n (Returned (some v)) h e = absurd (omega (arith, e))
+stop_names n (Returned None) h e = absurd (omega (arith, e))
+stop_names n (Returned (Some v)) h e = absurd (omega (arith, e))
 stop_names n (Steps l) h e = absurd (omega (arith, e))
 stop_names n (Unknown at x) h e = why_there n at x h.1 e
 stop_names n (NoBlock b) h e = absurd (omega (arith, e))

@@ -3,16 +3,18 @@ use mathlib.Core.Path.{◌≡◌, refl, sym, ap, ap₂, ◌∙◌}
 use mathlib.Core.Bool.{Bool, true, false}
 use mathlib.Core.List.{List, [], ◌∷◌, ◌++◌, append_assoc, append-nil}
 use Prim.Native.Nat.{ℕ, zero, suc, ◌+◌, ◌-◌, ◌/◌, ◌%◌, ◌^◌, ◌≤◌, ◌<◌}
-use native.Mathlib.Nat.{pow-suc, div-lt_iff_lt-mul, mul-le-mul_left, lt_of_lt_of_le, mod-lt, div-lt_self, mod-eq_of_lt, div-eq_of_lt, zero-div, zero-mod, add-zero, zero-add}
+use native.Mathlib.Nat.{pow-suc, div-lt_iff_lt-mul, mul-le-mul_left, lt_of_lt_of_le, div-lt_self, mod-eq_of_lt, div-eq_of_lt, zero-div, zero-mod, add-zero, zero-add}
 use native.Mathlib.Omega.{arith}
 use borrow.Author.Tests.{le-ltb, lt-ltb, ltb-true, ltb-false}
 use lib.Dec.{ltb}
-use lib.ListN.{length, set, replicate, length-append}
+use lib.ListN.{length, set, replicate, length-append, length-set}
 use lib.Seq.{sets}
 use Rattle.layout.proofs.StoreLaws.{sets_append}
 use Rattle.stream.proofs.RecordLaws.{sets_swap}
 use Rattle.definition.specs.Numerals.{digit, digits, padded}
-use Rattle.text.specs.Put.{Put, last_digits}
+use Rattle.text.specs.Put.{last_digits}
+use Rattle.text.specs.Pushed.{Pushed}
+use Rattle.text.specs.declared.line.Line.{Line}
 
 -- ---- one turn
 
@@ -89,23 +91,44 @@ last_more s at (suc left) base rest h =
     ∙ ap (λ (k : ℕ). set (sets s at xs) (at + k) d) (sym l)
     ∙ sym (sets_append xs (d ∷ []) s at))
 
+-- a line in whose buffer, behind what is written, x stands once the rest stands there
+pub record Filled (a : Line) (x : List ℕ) (b : Line) (rest : List ℕ) : Type 0 where
+  pub same_reference : b.out.ghost_name ≡ a.out.ghost_name
+  pub place : b.at ≡ a.at
+  pub same : sets b.out.now a.at rest ≡ sets a.out.now a.at x
+  pub room : length b.out.now ≡ length a.out.now
+
+pub filled_all : {a : Line} {x : List ℕ} → Filled a x a x
+filled_all = record { same_reference = refl; place = refl; same = refl; room = refl }
+
 -- a turn
-pub last_turn_lem : (s : List ℕ) {t : List ℕ} (at left base rest : ℕ) {d : ℕ} → 0 < left → d ≡ digit (rest % base) → sets s at (last_digits left base rest) ≡ t
-    → sets (set s (at + (left - 1)) d) at (last_digits (left - 1) base (rest / base)) ≡ t
-last_turn_lem s at left base rest h e f =
-    ap (λ (x : ℕ). sets (set s (at + (left - 1)) x) at (last_digits (left - 1) base (rest / base))) e ∙ last_more s at left base rest h ∙ f
+pub filled_more : {a b c : Line} {x : List ℕ} (left base rest : ℕ) {d : ℕ} → 0 < left → d ≡ digit (rest % base) → Filled a x b (last_digits left base rest)
+    → c.out.ghost_name ≡ b.out.ghost_name → c.out.now ≡ set b.out.now (b.at + (left - 1)) d → c.at ≡ b.at
+    → Filled a x c (last_digits (left - 1) base (rest / base))
+filled_more {a} {b} {c} left base rest {d} h e f n p q = record {
+  same_reference = n ∙ f.same_reference;
+  place = q ∙ f.place;
+  same =
+      ap (λ (l : List ℕ). sets l a.at (last_digits (left - 1) base (rest / base))) p
+      ∙ ap₂ (λ (i y : ℕ). sets (set b.out.now (i + (left - 1)) y) a.at (last_digits (left - 1) base (rest / base))) f.place e
+      ∙ last_more b.out.now a.at left base rest h
+      ∙ f.same;
+  room = ap length p ∙ length-set b.out.now (b.at + (left - 1)) d ∙ f.room;
+}
 
 -- the end
-pub last_put : (s s₀ : List ℕ) (at left base rest count number : ℕ) → left ≤ 0
-    → sets s at (last_digits left base rest) ≡ sets s₀ at (last_digits count base number) → length s ≡ length s₀
-    → Put s₀ at (last_digits count base number) s (at + count)
+pub filled_end : {a b c : Line} (left base rest count number : ℕ) → left ≤ 0 → Filled a (last_digits count base number) b (last_digits left base rest)
+    → c.out.ghost_name ≡ b.out.ghost_name → c.out.now ≡ b.out.now → c.at ≡ b.at + count → Pushed a c (last_digits count base number)
 unfolding last_digits
-last_put s s₀ at left base rest count number h e room =
+filled_end {a} {b} {c} left base rest count number h f n p q =
     let z : left ≡ 0 = omega arith in
     record {
-      same = ap (λ (k : ℕ). sets s at (last_digits k base rest)) (sym z) ∙ e;
-      end = ap (λ (k : ℕ). at + k) (sym (length_last count base number));
-      room = room;
+      same_reference = n ∙ f.same_reference;
+      put = record {
+        same = p ∙ ap (λ (k : ℕ). sets b.out.now a.at (last_digits k base rest)) (sym z) ∙ f.same;
+        end = omega (arith, q, f.place, length_last count base number);
+        room = ap length p ∙ f.room;
+      };
     }
 
 -- ---- which digits those are
@@ -165,23 +188,10 @@ module _ (base : ℕ) (b : 2 ≤ base) where
       go true e so = one k n (ltb-true n base e)
       go false e so = let h = ltb-false n base e in more k n h (so h)
 
--- ---- a digit's character
+-- ---- the rest falls
 
-module _ (d : ℕ) where
-  pub digit_low : d < 10 → 48 + d ≡ digit d
-  digit_low h = ap (λ (t : Bool). elim t [ true ↦ 48 + d | false ↦ 87 + d ]) (sym (lt-ltb d 10 h))
-
-  pub digit_high : 10 ≤ d → 87 + d ≡ digit d
-  digit_high h = ap (λ (t : Bool). elim t [ true ↦ 48 + d | false ↦ 87 + d ]) (sym (le-ltb d 10 h))
-
--- ---- what a digit is below, and that the rest falls
-
-module _ (n base : ℕ) (b : 2 ≤ base) where
-  pub digit_fits : base ≤ 16 → n % base < 16
-  digit_fits h = lt_of_lt_of_le (mod-lt n (omega arith)) h
-
-  pub rest_less : base ≤ n → n / base < n
-  rest_less h = div-lt_self (omega arith) (omega arith)
+pub rest_less : (n base : ℕ) → 2 ≤ base → base ≤ n → n / base < n
+rest_less n base b h = div-lt_self (omega arith) (omega arith)
 
 -- ---- a number whose digits were counted
 
@@ -190,14 +200,5 @@ module _ (number : ℕ) {count : ℕ} (h : number < 2 ^ 64) where
   digits_put base b e =
       ap (λ (k : ℕ). last_digits k base number) (e ∙ sym (zero-add (length (digits 64 base number)))) ∙ digits_are base b 64 number h 0
 
-  module _ (e : count ≡ length (digits 64 16 number)) where
-    pub padded_few : count < 8 → last_digits 8 16 number ≡ padded (digits 64 16 number)
-    padded_few l =
-        let n = length (digits 64 16 number) in
-        let f : 8 ≡ 8 - n + n = omega arith in
-        ap (λ (k : ℕ). last_digits k 16 number) f ∙ digits_are 16 (omega arith) 64 number h (8 - n)
-
-    pub padded_many : 8 ≤ count → last_digits count 16 number ≡ padded (digits 64 16 number)
-    padded_many l =
-        let f : 0 ≡ 8 - length (digits 64 16 number) = omega arith in
-        digits_put 16 (omega arith) e ∙ ap (λ (k : ℕ). replicate k 48 ++ digits 64 16 number) f
+  pub padded_put : count ≡ 8 - length (digits 64 16 number) + length (digits 64 16 number) → last_digits count 16 number ≡ padded (digits 64 16 number)
+  padded_put e = ap (λ (k : ℕ). last_digits k 16 number) e ∙ digits_are 16 (omega arith) 64 number h (8 - length (digits 64 16 number))

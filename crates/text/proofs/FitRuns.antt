@@ -1,11 +1,11 @@
 -- The record of a run, of which what it holds fits its fields. Assumes nothing.
 use mathlib.Core.Bool.{Bool, true, false}
 use mathlib.Core.List.{List, [], ◌∷◌, ◌++◌, map}
-use mathlib.Core.Option.{Option, none, some}
+use Rattle.std.specs.Prelude.{Option, None, Some, slice_get}
 use Prim.Native.Nat.{ℕ, zero, suc, ◌≤◌, ◌<◌, compare, Ordering}
 use native.Mathlib.Omega.{arith}
 use lib.Dec.{ltb, eqb, lit<}
-use lib.ListN.{length, get_or, get_elem?}
+use lib.ListN.{length, get_or}
 use Rattle.layout.specs.Each.{Each}
 use Rattle.layout.specs.Text.{text, same}
 use Rattle.layout.proofs.StoreLaws.{all_append}
@@ -32,7 +32,7 @@ use Rattle.text.proofs.FitTrees.{OptionIs, PendingFits, OpFits, ReplyFits, All, 
 
 -- ---- lists
 
-each_get : {X : Type 0} (P : X → Type 0) (xs : List X) (k : ℕ) → Each P xs → OptionIs P (get_elem? xs k)
+each_get : {X : Type 0} (P : X → Type 0) (xs : List X) (k : ℕ) → Each P xs → OptionIs P (slice_get xs k)
 each_get P [] k h = tt
 each_get P (x ∷ xs) zero h = h.0
 each_get P (x ∷ xs) (suc k) h = each_get P xs k h.1
@@ -77,15 +77,15 @@ module _ (n : ℕ) where
   last_fits (s ∷ t ∷ ss) h = last_fits (t ∷ ss) h.1
 
   address_fits : (at : Option ℕ) (ss : List Statement) → OptionFits at → Each StatementFits ss → OptionFits (address_or at ss)
-  address_fits none ss h g = last_fits ss g
-  address_fits (some a) ss h g = h
+  address_fits None ss h g = last_fits ss g
+  address_fits (Some a) ss h g = h
 
   case_fits : (cs : List Case) (k : ℕ) → Each (λ c. Below 4 c.target) cs → OptionIs (Below 4) (case_of cs k)
   unfolding case_of
   case_fits [] k h = tt
   case_fits (c ∷ cs) k h = go (eqb c.value k) (case_fits cs k h.1)
     where
-      go : (b : Bool) → OptionIs (Below 4) (case_of cs k) → OptionIs (Below 4) (elim b [ true ↦ some c.target | false ↦ case_of cs k ])
+      go : (b : Bool) → OptionIs (Below 4) (case_of cs k) → OptionIs (Below 4) (elim b [ true ↦ Some c.target | false ↦ case_of cs k ])
       go true g = h.0
       go false g = g
 
@@ -122,8 +122,8 @@ module _ (n : ℕ) where
     f_settle b l block h k = f_if n (ltb k (length block.statements)) (λ _. f_done n l) (λ _. f_terminate block.statements h.statements h.end)
 
     pub data StopIs : Option Stop → Type 0 where
-      no_stop : StopIs none
-      a_stop : {s : Stop} → StopFits n s → StopIs (some s)
+      no_stop : StopIs None
+      a_stop : {s : Stop} → StopFits n s → StopIs (Some s)
 
     f_onward : (b : ℕ) → Below 4 b → (block : Block) → BlockFits block → (k : ℕ) {o : Option Stop} → StopIs o → Fit n NextFits (onward E b block k o)
     f_onward b l block h k no_stop = f_settle b l block h (suc k)
@@ -136,8 +136,8 @@ module _ (n : ℕ) where
       pub stop : StopIs o.1
 
     noted : (x : Note) (p : Pending) → NoteFits n x → PendingFits n p → NoteFits n (note_of x p)
-    noted no_note none h g = tt
-    noted no_note (some xs) h g = g
+    noted no_note None h g = tt
+    noted no_note (Some xs) h g = g
     noted (fields_written a k) p h g = h
     noted (value_written a v) p h g = h
     noted result_unknown p h g = tt
@@ -184,22 +184,22 @@ module _ (n : ℕ) where
       module _ (blocks : Each BlockFits P.blocks) where
         f_unit : (p : Place) → Below 4 (block_of p) → UnitFits (unit P E p)
         unfolding unit
-        f_unit (before b) l = go (get_elem? P.blocks b) (each_get BlockFits P.blocks b blocks)
+        f_unit (before b) l = go (slice_get P.blocks b) (each_get BlockFits P.blocks b blocks)
           where
-            go : (o : Option Block) → OptionIs BlockFits o → UnitFits (elim o [ none ↦ none | some block ↦ some (true, settle E b block 0) ])
-            go none h = tt
-            go (some block) h = f_settle b l block h 0
-        f_unit (within b k) l = go (get_elem? P.blocks b) (each_get BlockFits P.blocks b blocks)
+            go : (o : Option Block) → OptionIs BlockFits o → UnitFits (elim o [ None ↦ None | Some block ↦ Some (true, settle E b block 0) ])
+            go None h = tt
+            go (Some block) h = f_settle b l block h 0
+        f_unit (within b k) l = go (slice_get P.blocks b) (each_get BlockFits P.blocks b blocks)
           where
             at : (block : Block) → BlockFits block → (o : Option Statement) → OptionIs StatementFits o
-                → UnitFits (elim o [ none ↦ none | some s ↦ some (false, run_statement P E b s >>= onward E b block k) ])
-            at block h none g = tt
-            at block h (some s) g = f_bind n (f_statement b l s g) (λ x i. f_onward b l block h k i)
+                → UnitFits (elim o [ None ↦ None | Some s ↦ Some (false, run_statement P E b s >>= onward E b block k) ])
+            at block h None g = tt
+            at block h (Some s) g = f_bind n (f_statement b l s g) (λ x i. f_onward b l block h k i)
 
             go : (o : Option Block) → OptionIs BlockFits o
-                → UnitFits (elim o [ none ↦ none | some block ↦ elim (get_elem? block.statements k) [ none ↦ none | some s ↦ some (false, run_statement P E b s >>= onward E b block k) ] ])
-            go none h = tt
-            go (some block) h = at block h (get_elem? block.statements k) (each_get StatementFits block.statements k h.statements)
+                → UnitFits (elim o [ None ↦ None | Some block ↦ elim (slice_get block.statements k) [ None ↦ None | Some s ↦ Some (false, run_statement P E b s >>= onward E b block k) ] ])
+            go None h = tt
+            go (Some block) h = at block h (slice_get block.statements k) (each_get StatementFits block.statements k h.statements)
 
         wide : (k : ℕ) → Below 4 k → Below 8 k
         wide k h = omega (arith, h)
@@ -208,9 +208,9 @@ module _ (n : ℕ) where
         unfolding walk
         f_walk zero p l = go (unit P E p)
           where
-            go : (o : Option (Bool × Act Next)) → Fit n NextFits (elim o [ none ↦ done (stops (NoBlock (block_of p))) | some u ↦ done (goes p) ])
-            go none = f_done n (wide (block_of p) l)
-            go (some u) = f_done n l
+            go : (o : Option (Bool × Act Next)) → Fit n NextFits (elim o [ None ↦ done (stops (NoBlock (block_of p))) | Some u ↦ done (goes p) ])
+            go None = f_done n (wide (block_of p) l)
+            go (Some u) = f_done n l
         f_walk (suc most) p l = go (unit P E p) (f_unit p l) (λ q k. f_walk most q k)
           where
             Less : Type 0
@@ -227,11 +227,11 @@ module _ (n : ℕ) where
 
             go : (o : Option (Bool × Act Next)) → UnitFits o → Less
                 → Fit n NextFits (elim o [
-                  | none ↦ done (stops (NoBlock (block_of p)))
-                  | some u ↦ act (spend_op u.0) (λ paid. elim paid [ false ↦ done (goes p) | true ↦ u.1 >>= λ x. elim x [ stops s ↦ done (stops s) | goes q ↦ walk P E most q ] ])
+                  | None ↦ done (stops (NoBlock (block_of p)))
+                  | Some u ↦ act (spend_op u.0) (λ paid. elim paid [ false ↦ done (goes p) | true ↦ u.1 >>= λ x. elim x [ stops s ↦ done (stops s) | goes q ↦ walk P E most q ] ])
                 ])
-            go none h ih = f_done n (wide (block_of p) l)
-            go (some u) h ih = f_act n tt (λ b _. pays ih u h b)
+            go None h ih = f_done n (wide (block_of p) l)
+            go (Some u) h ih = f_act n tt (λ b _. pays ih u h b)
 
         f_from : (units : ℕ) → Fit n NextFits (walk_from P E units)
         unfolding walk_from
@@ -261,7 +261,7 @@ module _ (n : ℕ) where
   found_fits x [] h = tt
   found_fits x (p ∷ m) h = go (compare x p.0) (found_fits x m h.1)
     where
-      go : (o : Ordering) → OptionIs ValIs (find x m) → OptionIs ValIs (elim o [ Ordering.lt ↦ none | Ordering.eq ↦ some p.1 | Ordering.gt ↦ find x m ])
+      go : (o : Ordering) → OptionIs ValIs (find x m) → OptionIs ValIs (elim o [ Ordering.lt ↦ None | Ordering.eq ↦ Some p.1 | Ordering.gt ↦ find x m ])
       go Ordering.lt g = tt
       go Ordering.eq g = record { fits = h.0.1 }
       go Ordering.gt g = g
@@ -328,11 +328,11 @@ module _ (n : ℕ) where
   added_fits types [] m h g = g
   added_fits types (v ∷ vs) m h g =
       let x = unknown_val (type_of (get_or types v.type [])) in
-      added_fits types vs (elim (find v.name m) [ none ↦ store v.name x m | some y ↦ m ]) h.1 (go (find v.name m))
+      added_fits types vs (elim (find v.name m) [ None ↦ store v.name x m | Some y ↦ m ]) h.1 (go (find v.name m))
     where
-      go : (o : Option Val) → Each (VariableFits n) (elim o [ none ↦ store v.name (unknown_val (type_of (get_or types v.type []))) m | some y ↦ m ])
-      go none = stored_fits v.name (unknown_val (type_of (get_or types v.type []))) m h.0 (unknown_fits (type_fits (get_or types v.type []))) g
-      go (some y) = g
+      go : (o : Option Val) → Each (VariableFits n) (elim o [ None ↦ store v.name (unknown_val (type_of (get_or types v.type []))) m | Some y ↦ m ])
+      go None = stored_fits v.name (unknown_val (type_of (get_or types v.type []))) m h.0 (unknown_fits (type_fits (get_or types v.type []))) g
+      go (Some y) = g
 
   -- ---- what an evaluation is in
 
@@ -341,13 +341,13 @@ module _ (n : ℕ) where
   declared_fits types [] x = tt
   declared_fits types (v ∷ vs) x = go (declared_in types vs x) (declared_fits types vs x) (eqb v.name x)
     where
-      one : (b : Bool) → OptionIs TyIs (elim b [ true ↦ some (type_of (get_or types v.type [])) | false ↦ none ])
+      one : (b : Bool) → OptionIs TyIs (elim b [ true ↦ Some (type_of (get_or types v.type [])) | false ↦ None ])
       one true = type_fits (get_or types v.type [])
       one false = tt
 
-      go : (o : Option Ty) → OptionIs TyIs o → (b : Bool) → OptionIs TyIs (elim o [ some t ↦ some t | none ↦ elim b [ true ↦ some (type_of (get_or types v.type [])) | false ↦ none ] ])
-      go (some t) h b = h
-      go none h b = one b
+      go : (o : Option Ty) → OptionIs TyIs o → (b : Bool) → OptionIs TyIs (elim o [ Some t ↦ Some t | None ↦ elim b [ true ↦ Some (type_of (get_or types v.type [])) | false ↦ None ] ])
+      go (Some t) h b = h
+      go None h b = one b
 
   follow_fits : (left name address : ℕ) (vs : List Val) → Fit n (OptionIs ValIs) (follow_at left name address vs)
   unfolding follow_at

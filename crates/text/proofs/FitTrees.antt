@@ -2,7 +2,7 @@
 use mathlib.Core.Path.{◌≡◌, refl, sym, ap}
 use mathlib.Core.Bool.{Bool, true, false, ◌&&◌, ◌||◌}
 use mathlib.Core.List.{List, [], ◌∷◌}
-use mathlib.Core.Option.{Option, none, some}
+use Rattle.std.specs.Prelude.{Option, None, Some, Result}
 use Prim.Native.Nat.{ℕ, zero, suc, ◌+◌, ◌*◌, ◌/◌, ◌%◌, ◌^◌, max, ◌≤◌, ◌<◌}
 use native.Mathlib.Nat.{mod-lt}
 use native.Mathlib.Omega.{arith}
@@ -13,7 +13,7 @@ use Rattle.layout.specs.Each.{Each}
 use Rattle.layout.proofs.FormatLaws.{Below}
 use Rattle.value.specs.declared.Ty.{Ty}
 use Rattle.value.specs.declared.Val.{Val}
-use Rattle.value.specs.declared.Answer.{Answer as Result}
+use Rattle.value.specs.declared.ArithmeticError.{ArithmeticError}
 use Rattle.value.specs.Value.{type, type_of_val, known_val, unknown_val, cast_to}
 use Rattle.value.specs.Operators.{operator_of}
 use Rattle.spelling.specs.Spelling.{type_of, ends_star, before_star}
@@ -30,13 +30,13 @@ use Rattle.text.proofs.Fits.{WroteFits, NoteFits, StepFits, WhyFits}
 use Rattle.text.proofs.FitValues.{TyIs, ValIs, small, sixty_four, known_fits, unknown_fits, cast_fits, type_fits, AnswerIs, value_is, no_value, binary_fits}
 
 abbrev pub OptionIs : {X : Type 0} → (X → Type 0) → Option X → Type 0
-OptionIs P none = Unit
-OptionIs P (some x) = P x
+OptionIs P None = Unit
+OptionIs P (Some x) = P x
 
 module _ (n : ℕ) where
   abbrev pub PendingFits : Pending → Type 0
-  PendingFits none = Unit
-  PendingFits (some xs) = (length xs ≤ 16) × Each (λ x. x < n) xs
+  PendingFits None = Unit
+  PendingFits (Some xs) = (length xs ≤ 16) × Each (λ x. x < n) xs
 
   abbrev pub OpFits : Op → Type 0
   OpFits (peek_op a) = Unit
@@ -106,9 +106,9 @@ module _ (n : ℕ) where
     f_if false p q = q refl
 
     pub f_option : {X : Type 0} (P : X → Type 0) (o : Option X) {m : Act A} {s : X → Act A} → OptionIs P o → Fit Q m → ((x : X) → P x → Fit Q (s x))
-        → Fit Q (elim o [ none ↦ m | some x ↦ s x ])
-    f_option P none h p q = p
-    f_option P (some x) h p q = q x h
+        → Fit Q (elim o [ None ↦ m | Some x ↦ s x ])
+    f_option P None h p q = p
+    f_option P (Some x) h p q = q x h
 
     pub f_try : {t : Act A} → Fit Q t → Fit (EndFits Q) (try t)
     f_try {t = t} p = record { all = all_try Q t p.all }
@@ -117,8 +117,8 @@ module _ (n : ℕ) where
   Any x = Unit
 
   any : {X : Type 0} (o : Option X) → OptionIs Any o
-  any none = tt
-  any (some x) = tt
+  any None = tt
+  any (Some x) = tt
 
   -- ---- memory
 
@@ -134,8 +134,8 @@ module _ (n : ℕ) where
       f_bind (f_ask {Q = Any} (λ i _. f_done tt)) (λ i _. f_bind (f_gather (max (t.bits / 8) 1) a i) (λ bs _. f_done (shown bs)))
     where
       shown : (bs : Option (List ℕ)) → ValIs (loaded t bs)
-      shown none = unknown_fits h
-      shown (some bs) = known_fits h _
+      shown None = unknown_fits h
+      shown (Some bs) = known_fits h _
 
   f_pokes : (a : ℕ) (bs : List ℕ) → Fit Any (pokes a bs)
   unfolding pokes
@@ -204,7 +204,7 @@ module _ (n : ℕ) where
   f_evals fit_none = f_done tt
   f_evals (fit_more t ts) = f_bind (f_eval t) (λ v _. f_bind (f_evals ts) (λ vs _. f_done tt))
 
-  f_answered : {a : Result} → AnswerIs a → Fit ValIs (answered a)
+  f_answered : {a : Result Val ArithmeticError} → AnswerIs a → Fit ValIs (answered a)
   f_answered (value_is h) = f_done h
   f_answered no_value = f_fail tt
 
@@ -216,15 +216,15 @@ module _ (n : ℕ) where
   pub number_fits : (v : Val) → ValIs v → OptionIs (Below 8) (number_in v)
   number_fits v h = go v.known
     where
-      go : (b : Bool) → OptionIs (Below 8) (elim b [ true ↦ some v.number | false ↦ none ])
+      go : (b : Bool) → OptionIs (Below 8) (elim b [ true ↦ Some v.number | false ↦ None ])
       go true = h.fits.1
       go false = tt
 
   width_fits : (o : Option ℕ) → OptionIs (λ bits. bits ≤ 64) (width_in o)
-  width_fits none = tt
-  width_fits (some k) = go (eqb k 1) (eqb k 2) (eqb k 4) (eqb k 8) refl refl refl refl
+  width_fits None = tt
+  width_fits (Some k) = go (eqb k 1) (eqb k 2) (eqb k 4) (eqb k 8) refl refl refl refl
     where
-      go : (a b c d : Bool) → eqb k 1 ≡ a → eqb k 2 ≡ b → eqb k 4 ≡ c → eqb k 8 ≡ d → OptionIs (λ bits. bits ≤ 64) (elim (a || b || c || d) [ true ↦ some (k * 8) | false ↦ none ])
+      go : (a b c d : Bool) → eqb k 1 ≡ a → eqb k 2 ≡ b → eqb k 4 ≡ c → eqb k 8 ≡ d → OptionIs (λ bits. bits ≤ 64) (elim (a || b || c || d) [ true ↦ Some (k * 8) | false ↦ None ])
       go true b c d e f g h = omega (arith, eqb-true k 1 e)
       go false true c d e f g h = omega (arith, eqb-true k 2 f)
       go false false true d e f g h = omega (arith, eqb-true k 4 g)
@@ -232,8 +232,8 @@ module _ (n : ℕ) where
       go false false false false e f g h = tt
 
   symbol_fits : (o : Option ℕ) → OptionFits o → OptionIs (Below 8) o
-  symbol_fits none h = tt
-  symbol_fits (some a) h = h
+  symbol_fits None h = tt
+  symbol_fits (Some a) h = h
 
   chosen_fits : (c a b : Val) → ValIs a → ValIs b → ValIs (chosen c a b)
   chosen_fits c a b p q = go (number_in c)
@@ -242,17 +242,17 @@ module _ (n : ℕ) where
       pick k true = q
       pick k false = p
 
-      go : (o : Option ℕ) → ValIs (elim o [ none ↦ unknown_val (type_of_val a) | some k ↦ elim (eqb k 0) [ true ↦ b | false ↦ a ] ])
-      go none = record { fits = (p.fits.0, lit< tt) }
-      go (some k) = pick k (eqb k 0)
+      go : (o : Option ℕ) → ValIs (elim o [ None ↦ unknown_val (type_of_val a) | Some k ↦ elim (eqb k 0) [ true ↦ b | false ↦ a ] ])
+      go None = record { fits = (p.fits.0, lit< tt) }
+      go (Some k) = pick k (eqb k 0)
 
   pub record DidFits (d : Did) : Type 0 where
     pub wrote : WroteFits n d.wrote
     pub note : NoteFits n d.note
 
   value_of_lem : (o : Option (ℕ × Val)) → WroteFits n o → ValIs (value_of o)
-  value_of_lem none h = nothing_is
-  value_of_lem (some w) h = record { fits = h.1 }
+  value_of_lem None h = nothing_is
+  value_of_lem (Some w) h = record { fits = h.1 }
 
   -- ---- every kind
 
@@ -262,8 +262,8 @@ module _ (n : ℕ) where
 
   module _ (E : Env) (env : EnvFits E) where
     declared_or : (o : Option Ty) → OptionIs TyIs o → TyIs (type_or o)
-    declared_or none h = sixty_four {s = true}
-    declared_or (some t) h = h
+    declared_or None h = sixty_four {s = true}
+    declared_or (Some t) h = h
 
     f_read : (x : ℕ) → Fit ValIs (read_variable E x)
     unfolding read_variable
@@ -289,7 +289,7 @@ module _ (n : ℕ) where
     pointee_fits : (t : Term) → OptionIs TyIs (pointee_of E t)
     pointee_fits t = go (is Cast t && ends_star (get_or E.types (node t).ref []))
       where
-        go : (b : Bool) → OptionIs TyIs (elim b [ true ↦ some (type_of (before_star (get_or E.types (node t).ref []))) | false ↦ none ])
+        go : (b : Bool) → OptionIs TyIs (elim b [ true ↦ Some (type_of (before_star (get_or E.types (node t).ref []))) | false ↦ None ])
         go true = type_fits _
         go false = tt
 
@@ -343,13 +343,13 @@ module _ (n : ℕ) where
     taken_fits t h = go (is AddressOf t) (is Var (kid 0 (kids t))) refl
       where
         there : (o : Option Ty) → OptionIs TyIs o → (node (kid 0 (kids t))).ref < n
-            → OptionIs (λ (p : ℕ × Ty). (p.0 < n) × TyIs p.1) (elim o [ none ↦ none | some y ↦ some ((node (kid 0 (kids t))).ref, y) ])
-        there none h l = tt
-        there (some y) h l = (l, h)
+            → OptionIs (λ (p : ℕ × Ty). (p.0 < n) × TyIs p.1) (elim o [ None ↦ None | Some y ↦ Some ((node (kid 0 (kids t))).ref, y) ])
+        there None h l = tt
+        there (Some y) h l = (l, h)
 
         go : (a b : Bool) → is Var (kid 0 (kids t)) ≡ b
             → OptionIs (λ (p : ℕ × Ty). (p.0 < n) × TyIs p.1)
-            (elim (a && b) [ true ↦ let x = (node (kid 0 (kids t))).ref in elim (E.declared x) [ none ↦ none | some y ↦ some (x, y) ] | false ↦ none ])
+            (elim (a && b) [ true ↦ let x = (node (kid 0 (kids t))).ref in elim (E.declared x) [ None ↦ None | Some y ↦ Some (x, y) ] | false ↦ None ])
         go true true e = there (E.declared (node (kid 0 (kids t))).ref) (env.declared (node (kid 0 (kids t))).ref) (is_var (kid 0 (kids t)) (f_kid 0 (f_kids h)) e)
         go true false e = tt
         go false b e = tt
@@ -382,11 +382,11 @@ module _ (n : ℕ) where
     unfolding address_val
     f_address t = f_if (is Var t) (λ _. f_ask (λ a _. f_done (shown a))) (λ _. f_done (unknown_fits (sixty_four {s = false})))
       where
-        shown : (a : Option ℕ) → ValIs (elim a [ none ↦ unknown_val (type 64 false) | some k ↦ known_val k (type 64 false) ])
-        shown none = unknown_fits (sixty_four {s = false})
-        shown (some k) = known_fits (sixty_four {s = false}) k
+        shown : (a : Option ℕ) → ValIs (elim a [ None ↦ unknown_val (type 64 false) | Some k ↦ known_val k (type 64 false) ])
+        shown None = unknown_fits (sixty_four {s = false})
+        shown (Some k) = known_fits (sixty_four {s = false}) k
 
-    f_through : (p : Val × Ty) → PointerFits p → Fit ValIs (elim (number_in p.0) [ none ↦ done (unknown_val p.1) | some a ↦ load a p.1 ])
+    f_through : (p : Val × Ty) → PointerFits p → Fit ValIs (elim (number_in p.0) [ None ↦ done (unknown_val p.1) | Some a ↦ load a p.1 ])
     f_through p h = f_option (Below 8) (number_in p.0) (number_fits p.0 h.address) (f_done (unknown_fits h.type)) (λ a _. f_load a h.type)
 
     rest_count : (ts : Terms) (k : ℕ) → count ts ≤ suc k → count (rest ts) ≤ k
@@ -461,8 +461,8 @@ module _ (n : ℕ) where
       f_looks (fit_cons t ts) = fit_more (f_look t) (f_looks ts)
 
     note_fits : (v : Val) (p : Pending) → NoteFits n (unknown_note v p)
-    note_fits v (some xs) = tt
-    note_fits v none = go v.known
+    note_fits v (Some xs) = tt
+    note_fits v None = go v.known
       where
         go : (b : Bool) → NoteFits n (elim b [ true ↦ no_note | false ↦ result_unknown ])
         go true = tt

@@ -8,16 +8,17 @@ use lib.Dec.{lit<, ltb, eqb}
 use lib.Pow.{pow_pos}
 use lib.IntN.{ℤ, nat_abs}
 use Rattle.layout.proofs.FormatLaws.{Below}
+use Rattle.std.specs.Prelude.{Result, Ok, Err}
 use Rattle.value.specs.declared.Ty.{Ty}
 use Rattle.value.specs.declared.Val.{Val}
 use Rattle.value.specs.declared.Operands.{Operands}
 use Rattle.value.specs.declared.BinaryOp.{BinaryOp}
 use Rattle.value.specs.declared.BinaryOp.TheVariants.{Add, Sub, Mul, Div, Mod, And, Or, Xor, Shl, Shr, Equal, NotEqual, Less, LessEqual, Greater, GreaterEqual, LogicalAnd, LogicalOr}
-use Rattle.value.specs.declared.Answer.{Answer}
-use Rattle.value.specs.declared.Answer.TheVariants.{Value, DivisionByZero}
+use Rattle.value.specs.declared.ArithmeticError.{ArithmeticError}
+use Rattle.value.specs.declared.ArithmeticError.TheVariants.{DivisionByZero}
 use Rattle.value.specs.Width.{width, residue}
 use Rattle.value.specs.Value.{type, type_of_val, known_val, unknown_val, convert, cast_to, meaning, read_as}
-use Rattle.value.specs.Operators.{count_of, operands_of, arithmetic, division, bitwise, truth, order, test, shift, binary_of}
+use Rattle.value.specs.Operators.{count_of, operands_of, arithmetic, division, bitwise, truth, order, compared, shift, binary_of}
 use Rattle.spelling.specs.Spelling.{is, pieces, any_unsigned, base_of, is_bool, is_wide_unsigned, is_wide_signed, is_short_int, ends_star, signed_word, unsigned_word, alone, two, named, type_of}
 use Rattle.value.proofs.Word.{width_le}
 use Rattle.definition.proofs.Fields.{ValFits}
@@ -112,11 +113,11 @@ pick_value : (b : Bool) {x y : Val} → ValIs x → ValIs y → ValIs (cond b x 
 pick_value true p q = p
 pick_value false p q = q
 
-pub data AnswerIs : Answer → Type 0 where
-  value_is : {v : Val} → ValIs v → AnswerIs (Value v)
-  no_value : AnswerIs DivisionByZero
+pub data AnswerIs : Result Val ArithmeticError → Type 0 where
+  value_is : {v : Val} → ValIs v → AnswerIs (Ok v)
+  no_value : AnswerIs (Err DivisionByZero)
 
-pick_answer : (b : Bool) {x y : Answer} → AnswerIs x → AnswerIs y → AnswerIs (cond b x y)
+pick_answer : (b : Bool) {x y : Result Val ArithmeticError} → AnswerIs x → AnswerIs y → AnswerIs (cond b x y)
 pick_answer true p q = p
 pick_answer false p q = q
 
@@ -151,8 +152,8 @@ module _ {l r : Val} (hl : ValIs l) (hr : ValIs r) where
   unfolding order
   order_fits f p = truth_fits _ p
 
-  test_fits : (f : ℕ → ℕ → Bool) (p : Operands) → ValIs (test f p)
-  unfolding test
+  test_fits : (f : ℕ → ℕ → Bool) (p : Operands) → ValIs (compared f p)
+  unfolding compared
   test_fits f p = truth_fits _ p
 
   shift_fits : (f : ℤ → ℕ → ℤ) → ValIs (shift f l r)

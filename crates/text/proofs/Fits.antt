@@ -1,5 +1,5 @@
 -- What the fields of a record hold: the record of a run of which this is true is read back as it was. n is how many names there are. Assumes nothing.
-use mathlib.Core.Option.{Option, none, some}
+use Rattle.std.specs.Prelude.{Option, None, Some}
 use Prim.Native.Nat.{ℕ, ◌≤◌, ◌<◌}
 use lib.ListN.{length}
 use Rattle.layout.specs.Each.{Each}
@@ -12,8 +12,8 @@ use Rattle.definition.proofs.Fields.{OptionFits, ValFits}
 
 module _ (n : ℕ) where
   abbrev pub WroteFits : Option (ℕ × Val) → Type 0
-  WroteFits none = Unit
-  WroteFits (some w) = (w.0 < n) × ValFits w.1
+  WroteFits None = Unit
+  WroteFits (Some w) = (w.0 < n) × ValFits w.1
 
   -- "at most 16" arguments, so at most as many names taken
   abbrev pub NoteFits : Note → Type 0
@@ -42,8 +42,8 @@ module _ (n : ℕ) where
   WhyFits by_zero = Unit
 
   abbrev pub StopFits : Stop → Type 0
-  StopFits (Returned none) = Unit
-  StopFits (Returned (some v)) = ValFits v
+  StopFits (Returned None) = Unit
+  StopFits (Returned (Some v)) = ValFits v
   StopFits (Steps limit) = Below 8 limit
   StopFits (Unknown at x) = OptionFits at × WhyFits x
   StopFits (NoBlock block) = Below 8 block

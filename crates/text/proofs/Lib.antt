@@ -1,6 +1,7 @@
 pub mod PutLaws
 pub mod DigitLaws
 pub mod NameLaws
+pub mod Short
 pub mod ReadLaws
 pub mod ValueText
 pub mod StepText

@@ -1,37 +1,28 @@
--- Texts put one behind the other. Assumes nothing.
+-- Texts appended one behind the other. Assumes nothing.
 use mathlib.Core.Path.{◌≡◌, refl, sym, ap, ap₂, ◌∙◌, subst}
 use mathlib.Core.List.{List, [], ◌++◌, append_assoc}
 use Prim.Native.Nat.{ℕ, ◌+◌, ◌-◌, ◌≤◌}
 use native.Mathlib.Nat.{add-zero}
 use native.Mathlib.Omega.{arith}
 use lib.ListN.{length, take, drop, length-append}
-use lib.Seq.{sets, length-sets, take-length}
-use borrow.Rule.Slice.PartMut.{mid_of, put_mid}
+use lib.Seq.{sets, sets-eq, length-sets, drop-drop}
+use borrow.Rule.Slice.PartMut.{put_mid}
 use Rattle.layout.proofs.StoreLaws.{sets_append}
-use Rattle.stream.proofs.StoreLaws.{bytes_stored}
 use Rattle.text.specs.Put.{Put}
-
--- nothing
-pub put_none : {s : List ℕ} {at : ℕ} → Put s at [] s at
-put_none {s} {at} = record { same = refl; end = sym (add-zero at); room = refl }
+use Rattle.text.specs.Pushed.{Room, Pushed}
+use Rattle.text.specs.declared.line.Line.{Line}
 
 -- what is copied to a place
-pub put_copied : (s from x : List ℕ) (at : ℕ) → at + length from ≤ length s → x ≡ take (length from) from ++ drop (length from) (mid_of at (length s - at) s)
-    → Put s at from (put_mid at (length s - at) s x) (at + length from)
+pub put_copied : (s from x : List ℕ) (at : ℕ) → at + length from ≤ length s → x ≡ from → Put s at from (put_mid at (at + length from - at) s x) (at + length from)
 put_copied s from x at h e =
-    let f = bytes_stored s from x at (length from) h (omega arith) e ∙ ap (sets s at) (take-length from) in
+    let k : at + length from - at ≡ length from = omega arith in
+    let d = drop-drop (length from) at s in
+    let f : put_mid at (at + length from - at) s x ≡ sets s at from =
+    rw (e, k, d) (sym (sets-eq from s at h ∙ append_assoc (take at s) from (drop (at + length from) s))) in
     record { same = f; end = refl; room = ap length f ∙ length-sets s at from }
 
--- another text, if it is the same
-pub put_as : {s t : List ℕ} {at r : ℕ} {x y : List ℕ} → Put s at x t r → x ≡ y → Put s at y t r
-put_as {s} {t} {at} {r} p e = subst (λ (l : List ℕ). Put s at l t r) e p
-
--- the text of something, if it is the same
-pub put_of : {s t : List ℕ} {at r : ℕ} {X : Type 0} (f : X → List ℕ) {x y : X} → x ≡ y → Put s at (f x) t r → Put s at (f y) t r
-put_of f e p = put_as p (ap f e)
-
 -- two texts
-pub put_then : {s t u x y : List ℕ} {at m r : ℕ} → Put s at x t m → Put t m y u r → Put s at (x ++ y) u r
+put_then : {s t u x y : List ℕ} {at m r : ℕ} → Put s at x t m → Put t m y u r → Put s at (x ++ y) u r
 put_then {s} {t} {u} {x} {y} {at} {m} {r} p q = record {
   same =
       q.same
@@ -41,30 +32,68 @@ put_then {s} {t} {u} {x} {y} {at} {m} {r} p q = record {
   room = q.room ∙ p.room;
 }
 
--- a text behind two
-pub put_after : {s t u z : List ℕ} {at m r : ℕ} (x y : List ℕ) → Put s at (x ++ y) t m → Put t m z u r → Put s at (x ++ (y ++ z)) u r
-put_after {z = z} x y p q = put_as (put_then p q) (append_assoc x y z)
+pub pushed_then : {a b c : Line} {x y : List ℕ} → Pushed a b x → Pushed b c y → Pushed a c (x ++ y)
+pushed_then p q = record { same_reference = q.same_reference ∙ p.same_reference; put = put_then p.put q.put }
 
--- and behind three
-pub put_third : {s t u w : List ℕ} {at m r : ℕ} (x y z : List ℕ) → Put s at (x ++ (y ++ z)) t m → Put t m w u r → Put s at (x ++ (y ++ (z ++ w))) u r
-put_third {w = w} x y z p q = put_as (put_after x (y ++ z) p q) (ap (λ (l : List ℕ). x ++ l) (append_assoc y z w))
+-- another text, if it is the same
+pub pushed_as : {a b : Line} {x y : List ℕ} → Pushed a b x → x ≡ y → Pushed a b y
+pushed_as {a} {b} p e = subst (λ (l : List ℕ). Pushed a b l) e p
 
--- ---- what is still to be put: with it behind what is there already, the buffer is as it is to be
+-- the text of something, if it is the same
+pub pushed_of : {a b : Line} {X : Type 0} (f : X → List ℕ) {x y : X} → y ≡ x → Pushed a b (f x) → Pushed a b (f y)
+pushed_of f e p = pushed_as p (ap f (sym e))
 
-pub record Left (s₀ : List ℕ) (at₀ : ℕ) (x : List ℕ) (s : List ℕ) (at : ℕ) (rest : List ℕ) : Type 0 where
-  pub same : sets s at rest ≡ sets s₀ at₀ x
-  pub end : at + length rest ≡ at₀ + length x
-  pub room : length s ≡ length s₀
+-- ---- room
 
-pub left_all : {s : List ℕ} {at : ℕ} {x : List ℕ} → Left s at x s at x
-left_all = record { same = refl; end = refl; room = refl }
+pub room_as : (a : Line) {x y : List ℕ} → x ≡ y → Room a y → Room a x
+room_as a {x} {y} e h = omega (arith, ap length e, h)
 
-pub left_more : {s₀ x s t y rest : List ℕ} {at₀ at m : ℕ} → Left s₀ at₀ x s at (y ++ rest) → Put s at y t m → Left s₀ at₀ x t m rest
-left_more {s₀} {x} {s} {t} {y} {rest} {at₀} {at} {m} l p = record {
-  same = ap₂ (λ (q : List ℕ) (k : ℕ). sets q k rest) p.same p.end ∙ sym (sets_append y rest s at) ∙ l.same;
-  end = omega (arith, p.end, l.end, length-append y rest);
-  room = p.room ∙ l.room;
+-- for the first of two texts
+pub room_first : (a : Line) (x y : List ℕ) → Room a (x ++ y) → Room a x
+room_first a x y h = omega (arith, h, length-append x y)
+
+-- behind a text that was appended
+pub room_then : {a b : Line} {x : List ℕ} (y : List ℕ) → Pushed a b x → Room a (x ++ y) → Room b y
+room_then {a} {b} {x} y p h = omega (arith, h, length-append x y, p.put.end, p.put.room)
+
+-- ---- a whole line
+
+-- in a line that is empty yet
+pub room_new : (a : Line) (x : List ℕ) {s : List ℕ} → (a.out.now ≡ s) × (a.at ≡ 0) → 8192 ≤ length s → length x ≤ 8192 → Room a x
+room_new a x e h l = omega (arith, ap length e.0, e.1, h, l)
+
+-- the buffer of a line that began empty
+pub put_whole : {a b : Line} {s t x : List ℕ} {r : ℕ} → Pushed a b x → (a.out.now ≡ s) × (a.at ≡ 0) → t ≡ b.out.now → r ≡ b.at → length x ≤ 8192 → Put s 0 x t r × (r ≤ 8192)
+put_whole {a} {b} {s} {t} {x} {r} p e f g l =
+    let end : r ≡ 0 + length x = omega (arith, g, p.put.end, e.1) in (
+      record {
+        same = f ∙ p.put.same ∙ ap₂ (λ (l : List ℕ) (k : ℕ). sets l k x) e.0 e.1;
+        end = end;
+        room = ap length f ∙ p.put.room ∙ ap length e.0;
+      },
+      omega (arith, end, l),
+    )
+
+-- ---- what is still to be appended: with it behind what is there already, the line is as it is to be
+
+pub record Left (a : Line) (x : List ℕ) (b : Line) (rest : List ℕ) : Type 0 where
+  pub same_reference : b.out.ghost_name ≡ a.out.ghost_name
+  pub same : sets b.out.now b.at rest ≡ sets a.out.now a.at x
+  pub end : b.at + length rest ≡ a.at + length x
+  pub room : length b.out.now ≡ length a.out.now
+  pub fits : Room b rest
+
+pub left_all : {a : Line} {x : List ℕ} → Room a x → Left a x a x
+left_all h = record { same_reference = refl; same = refl; end = refl; room = refl; fits = h }
+
+pub left_more : {a b c : Line} {x y rest : List ℕ} → Left a x b (y ++ rest) → Pushed b c y → Left a x c rest
+left_more {a} {b} {c} {x} {y} {rest} l p = record {
+  same_reference = p.same_reference ∙ l.same_reference;
+  same = ap₂ (λ (q : List ℕ) (k : ℕ). sets q k rest) p.put.same p.put.end ∙ sym (sets_append y rest b.out.now b.at) ∙ l.same;
+  end = omega (arith, p.put.end, l.end, length-append y rest);
+  room = p.put.room ∙ l.room;
+  fits = room_then rest p l.fits;
 }
 
-pub left_none : {s₀ x s : List ℕ} {at₀ at : ℕ} → Left s₀ at₀ x s at [] → Put s₀ at₀ x s at
-left_none {at = at} l = record { same = l.same; end = sym (add-zero at) ∙ l.end; room = l.room }
+pub left_none : {a b : Line} {x : List ℕ} → Left a x b [] → Pushed a b x
+left_none {a} {b} l = record { same_reference = l.same_reference; put = record { same = l.same; end = sym (add-zero b.at) ∙ l.end; room = l.room } }

@@ -1,57 +1,40 @@
 -- Fields of a body, read one by one. Assumes nothing.
-use mathlib.Core.Path.{◌≡◌, refl, sym, ap, ap₂, ◌∙◌, subst}
+use mathlib.Core.Path.{◌≡◌, refl, sym, ap, ap₂, ◌∙◌}
 use mathlib.Core.Bool.{Bool}
 use mathlib.Core.List.{List}
-use mathlib.Core.Option.{none, some}
-use Prim.Native.Nat.{ℕ, zero, suc, ◌+◌, ◌-◌, ◌*◌, ◌<◌}
-use native.Mathlib.Omega.{arith}
-use lib.ListN.{length, take, drop, length-drop}
-use lib.Seq.{take_all}
+use Rattle.std.specs.Prelude.{None, Some}
+use Prim.Native.Nat.{ℕ, zero, suc, ◌+◌}
 use Rattle.layout.specs.Number.{number_at}
 use Rattle.layout.specs.Format.{bool_of}
 use Rattle.layout.proofs.FormatLaws.{flag_set}
 use Rattle.value.specs.declared.Val.{Val}
 use Rattle.files.specs.Program.{flagged}
 use Rattle.value.specs.Encoding.{val_at}
-use Rattle.text.specs.Read.{address_in, written_if, wrote_in, StepThere, VariableThere}
+use Rattle.text.specs.Read.{address_in, written_if, wrote_in}
 
 -- ---- what is there if its flag is set
 
-flagged_some : (f a : ℕ) → (f ≡ 0 → ⊥) → flagged f a ≡ some a
+flagged_some : (f a : ℕ) → (f ≡ 0 → ⊥) → flagged f a ≡ Some a
 flagged_some zero a h = absurd (h refl)
 flagged_some (suc f) a h = refl
 
 module _ (s : List ℕ) (i : ℕ) {f : ℕ} (e : f ≡ number_at s i 1) where
-  pub address_none : f ≡ 0 → none ≡ address_in s i
+  pub address_none : f ≡ 0 → None ≡ address_in s i
   unfolding address_in
   address_none z = ap (λ (k : ℕ). flagged k (number_at s (i + 1) 8)) (sym z ∙ e)
 
-  pub address_some : {a : ℕ} → (f ≡ 0 → ⊥) → a ≡ number_at s (i + 1) 8 → some a ≡ address_in s i
+  pub address_some : {a : ℕ} → (f ≡ 0 → ⊥) → a ≡ number_at s (i + 1) 8 → Some a ≡ address_in s i
   unfolding address_in
   address_some {a} h g = sym (flagged_some f a h) ∙ ap₂ flagged e g
 
 module _ (s : List ℕ) {f : ℕ} (e : f ≡ number_at s 17 1) where
-  pub wrote_none : f ≡ 0 → none ≡ wrote_in s
+  pub wrote_none : f ≡ 0 → None ≡ wrote_in s
   unfolding wrote_in
   wrote_none z = ap (λ (k : ℕ). written_if (bool_of k) (number_at s 18 2, val_at s 20)) (sym z ∙ e)
 
-  pub wrote_some : {k : ℕ} {v : Val} → (f ≡ 0 → ⊥) → k ≡ number_at s 18 2 → v ≡ val_at s 20 → some (k, v) ≡ wrote_in s
+  pub wrote_some : {k : ℕ} {v : Val} → (f ≡ 0 → ⊥) → k ≡ number_at s 18 2 → v ≡ val_at s 20 → Some (k, v) ≡ wrote_in s
   unfolding wrote_in
   wrote_some {k} {v} h p q =
       ap (λ (b : Bool). written_if b (k, v)) (sym (flag_set f h))
       ∙ ap (λ (n : ℕ). written_if (bool_of n) (k, v)) e
       ∙ ap₂ (λ (x : ℕ) (y : Val). written_if (bool_of (number_at s 17 1)) (x, y)) p q
-
-  -- names that there are
-  pub wrote_named : {n k : ℕ} → StepThere n s → (f ≡ 0 → ⊥) → k ≡ number_at s 18 2 → k < n
-  wrote_named {n} t h p = subst (λ (x : ℕ). x < n) (sym p) (t.wrote (λ z. h (e ∙ z)))
-
-pub taken_named : (s : List ℕ) {n name : ℕ} (count k : ℕ) → StepThere n s → count ≡ number_at s 61 2 → k < count → name ≡ number_at s (63 + k * 2) 2 → name < n
-taken_named s {n} count k t e h p = subst (λ (x : ℕ). x < n) (sym p) (t.taken k (subst (λ (m : ℕ). k < m) e h))
-
-pub variable_named : (s : List ℕ) {n k : ℕ} → VariableThere n s → k ≡ number_at s 0 2 → k < n
-variable_named s {n} t p = subst (λ (x : ℕ). x < n) (sym p) t.named
-
--- a body from a place on
-pub rest_of : (s : List ℕ) (at : ℕ) → take (length s - at) (drop at s) ≡ drop at s
-rest_of s at = take_all (length s - at) (drop at s) (rw length-drop (omega arith))

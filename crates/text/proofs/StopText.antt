@@ -1,17 +1,17 @@
 -- Why a run stopped, by the numbers of kind and reason. Assumes nothing.
-use mathlib.Core.Path.{◌≡◌, sym, ap, ◌∙◌, subst}
+use mathlib.Core.Path.{◌≡◌, sym, ap, ap₂, ◌∙◌}
 use mathlib.Core.List.{List}
-use mathlib.Core.Option.{none, some}
-use Prim.Native.Nat.{ℕ, ◌≤◌, ◌<◌}
+use Rattle.std.specs.Prelude.{Option, None, Some}
+use Prim.Native.Nat.{ℕ, ◌≤◌}
 use native.Mathlib.Omega.{arith}
 use borrow.Author.Tests.{ne_eqb}
 use Rattle.layout.specs.Number.{number_at}
 use Rattle.layout.proofs.ArmLaws.{NoneBelow, none_below}
 use Rattle.value.specs.declared.Val.{Val}
-use Rattle.definition.specs.Act.{branch_unknown, switch_unknown, no_case, struct_to, unknown_address, unknown_value, no_width, store_to, by_zero}
+use Rattle.definition.specs.Act.{Why, branch_unknown, switch_unknown, no_case, struct_to, unknown_address, unknown_value, no_width, store_to, by_zero}
 use Rattle.definition.specs.Statements.{Returned, Steps, Unknown, NoBlock, NoBlocks, NoReturn, Halted}
 use Rattle.value.specs.Encoding.{val_at}
-use Rattle.text.specs.Read.{address_in, why_in, stop_in, StopThere}
+use Rattle.text.specs.Read.{address_in, why_in, stop_in}
 
 -- ---- the reason
 
@@ -54,18 +54,14 @@ module _ (s : List ℕ) {k : ℕ} (e : k ≡ number_at s 1 1) where
       let n = number_at s 1 1 in
       simp (ne_eqb n 1 (λ z. a (e ∙ z)), ne_eqb n 2 (λ z. b (e ∙ z)), ne_eqb n 3 (λ z. c (e ∙ z)), ne_eqb n 4 (λ z. d (e ∙ z)), ne_eqb n 5 (λ z. f (e ∙ z)), ne_eqb n 6 (λ z. g (e ∙ z)), ne_eqb n 7 (λ z. h (e ∙ z)), ne_eqb n 8 (λ z. i (e ∙ z)))
 
-  -- the name that it names is there
-  pub why_named : {n m : ℕ} → StopThere n s → k ≡ 7 → m ≡ number_at s 23 2 → m < n
-  why_named {n} t z p = subst (λ (x : ℕ). x < n) (sym p) (t.named (sym e ∙ z))
-
 -- ---- the stop
 
 module _ (s : List ℕ) {k : ℕ} (e : k ≡ number_at s 0 1) where
-  pub stop_value : {v : Val} → k ≡ 0 → v ≡ val_at s 25 → Returned (some v) ≡ stop_in s
+  pub stop_value : {v : Val} → k ≡ 0 → v ≡ val_at s 25 → Returned (Some v) ≡ stop_in s
   unfolding stop_in
-  stop_value z g = ap (λ (v : Val). Returned (some v)) g ∙ rw (sym e ∙ z)
+  stop_value z g = ap (λ (v : Val). Returned (Some v)) g ∙ rw (sym e ∙ z)
 
-  pub stop_returned : k ≡ 1 → Returned none ≡ stop_in s
+  pub stop_returned : k ≡ 1 → Returned None ≡ stop_in s
   unfolding stop_in
   stop_returned z = rw (sym e ∙ z)
 
@@ -73,9 +69,9 @@ module _ (s : List ℕ) {k : ℕ} (e : k ≡ number_at s 0 1) where
   unfolding stop_in
   stop_steps z g = ap Steps g ∙ rw (sym e ∙ z)
 
-  pub stop_unknown : k ≡ 3 → Unknown (address_in s 2) (why_in s) ≡ stop_in s
+  pub stop_unknown : {a : Option ℕ} {x : Why} → k ≡ 3 → a ≡ address_in s 2 → x ≡ why_in s → Unknown a x ≡ stop_in s
   unfolding stop_in
-  stop_unknown z = rw (sym e ∙ z)
+  stop_unknown z g h = ap₂ Unknown g h ∙ rw (sym e ∙ z)
 
   pub stop_no_block : {m : ℕ} → k ≡ 4 → m ≡ number_at s 11 8 → NoBlock m ≡ stop_in s
   unfolding stop_in
@@ -85,13 +81,14 @@ module _ (s : List ℕ) {k : ℕ} (e : k ≡ number_at s 0 1) where
   unfolding stop_in
   stop_no_blocks z = rw (sym e ∙ z)
 
-  pub stop_no_return : k ≡ 6 → NoReturn (address_in s 2) ≡ stop_in s
+  pub stop_no_return : {a : Option ℕ} → k ≡ 6 → a ≡ address_in s 2 → NoReturn a ≡ stop_in s
   unfolding stop_in
-  stop_no_return z = rw (sym e ∙ z)
+  stop_no_return z g = ap NoReturn g ∙ rw (sym e ∙ z)
 
-  pub stop_halted : NoneBelow 7 k → Halted (address_in s 2) (number_at s 11 8) ≡ stop_in s
+  pub stop_halted : {a : Option ℕ} {m : ℕ} → NoneBelow 7 k → a ≡ address_in s 2 → m ≡ number_at s 11 8 → Halted a m ≡ stop_in s
   unfolding stop_in
-  stop_halted h =
+  stop_halted h f g =
       let n = number_at s 0 1 in
       let l : 7 ≤ n = omega (arith, none_below 7 k h, e) in
-      simp (ne_eqb n 0 (λ z. absurd (omega arith)), ne_eqb n 1 (λ z. absurd (omega arith)), ne_eqb n 2 (λ z. absurd (omega arith)), ne_eqb n 3 (λ z. absurd (omega arith)), ne_eqb n 4 (λ z. absurd (omega arith)), ne_eqb n 5 (λ z. absurd (omega arith)), ne_eqb n 6 (λ z. absurd (omega arith)))
+      ap₂ Halted f g
+      ∙ simp (ne_eqb n 0 (λ z. absurd (omega arith)), ne_eqb n 1 (λ z. absurd (omega arith)), ne_eqb n 2 (λ z. absurd (omega arith)), ne_eqb n 3 (λ z. absurd (omega arith)), ne_eqb n 4 (λ z. absurd (omega arith)), ne_eqb n 5 (λ z. absurd (omega arith)), ne_eqb n 6 (λ z. absurd (omega arith)))

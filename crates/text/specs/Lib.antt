@@ -1,3 +1,5 @@
 pub mod Put
+pub mod Pushed
 pub mod Read
+pub mod Told
 pub mod Lines

@@ -1,7 +1,6 @@
 -- What stands in the bodies of a record, read by place: a value, a step, a stop, a variable. `s` is the body from the first byte of what is read on.
 -- Assumes nothing.
-use Rattle.std.specs.Prelude.{◌≡◌, Bool, true, false, cond, List, [], ◌∷◌, ℕ, zero, suc, ◌+◌, ◌*◌, ◌≤◌, ◌<◌, length, eqb}
-use Rattle.std.proofs.Math.Option.{Option, none, some}
+use Rattle.std.specs.Prelude.{◌≡◌, Bool, true, false, cond, List, [], ◌∷◌, ℕ, zero, suc, ◌+◌, ◌*◌, ◌≤◌, ◌<◌, length, eqb, Option, None, Some}
 use Rattle.layout.specs.Number.{number_at}
 use Rattle.layout.specs.Format.{bool_of}
 use Rattle.value.specs.declared.Val.{Val}
@@ -17,8 +16,8 @@ address_in s i = flagged (number_at s i 1) (number_at s (i + 1) 8)
 -- ---- a step: address at 0, statement at 13, what it wrote at 17, note at 34, count of taken names at 61
 
 abbrev pub written_if : Bool → ℕ × Val → Option (ℕ × Val)
-written_if true w = some w
-written_if false w = none
+written_if true w = Some w
+written_if false w = None
 
 unfoldable pub wrote_in : List ℕ → Option (ℕ × Val)
 wrote_in s = written_if (bool_of (number_at s 17 1)) (number_at s 18 2, val_at s 20)
@@ -74,8 +73,8 @@ unfoldable pub stop_in : List ℕ → Stop
 stop_in s =
     let kind = number_at s 0 1 in
     let number = number_at s 11 8 in
-    cond (eqb kind 0) (Returned (some (val_at s 25)))
-    (cond (eqb kind 1) (Returned none)
+    cond (eqb kind 0) (Returned (Some (val_at s 25)))
+    (cond (eqb kind 1) (Returned None)
     (cond (eqb kind 2) (Steps number)
     (cond (eqb kind 3) (Unknown (address_in s 2) (why_in s))
     (cond (eqb kind 4) (NoBlock number)

@@ -1,6 +1,6 @@
 -- A word that is congruent to an integer converts as the integer does. The arithmetic, one law for each operation.
 -- Assumes nothing.
-use Rattle.std.proofs.Common.{◌≡◌, ℕ, suc, ◌+◌, ◌-◌, ◌*◌, ◌/◌, ◌%◌, ◌^◌, ◌<◌, ◌≤◌, Bool, true, false, cond, not, ℤ, pos, negsuc, ◌+ℤ◌, ◌-ℤ◌, ◌*ℤ◌, nat_abs, sym, refl, ap, ◌∙◌, true≢false, lt_of_le_of_lt, mod-eq_of_lt, div-le_self, arith}
+use Rattle.std.proofs.Common.{◌≡◌, ℕ, suc, ◌+◌, ◌-◌, ◌*◌, ◌/◌, ◌%◌, ◌^◌, ◌<◌, ◌≤◌, Bool, true, false, cond, not, ℤ, pos, negsuc, ◌+ℤ◌, ◌-ℤ◌, ◌*ℤ◌, nat_abs, sym, refl, ap, ◌∙◌, lt_of_le_of_lt, mod-eq_of_lt, div-le_self, arith}
 use mathlib.Core.Bool.{beq, false≢true}
 use native.Mathlib.Nat.{zero-mod}
 use lib.Bits.{and_le_r}
@@ -47,14 +47,6 @@ module _ (v : Val) (t : Ty) where
   pub cast_unknown : v.known ≡ false → low_bits 0 t.bits ≡ (cast_to v t).number
   cast_unknown h = zero-mod (2 ^ width t.bits) ∙ ap (λ (c : Val). c.number) (pick_false (convert (meaning v) t) h)
 
-  -- the value converted to a type, of which the number is known
-  pub cast_is : {n : ℕ} → n ≡ (cast_to v t).number → record { known = v.known; signed = t.signed; bits = t.bits; number = n } ≡ cast_to v t
-  cast_is h = (λ i. record { known = v.known; signed = t.signed; bits = t.bits; number = h i }) ∙ same v.known
-    where
-      same : (b : Bool) → record { known = b; signed = t.signed; bits = t.bits; number = (cond b (convert (meaning v) t) (unknown_val t)).number } ≡ cond b (convert (meaning v) t) (unknown_val t)
-      same true = refl
-      same false = refl
-
 pub byte_of : (b : Bool) → bool_byte b ≡ cond b 1 0
 byte_of true = refl
 byte_of false = refl
@@ -64,25 +56,27 @@ module _ (p : Operands) where
   unfolding arithmetic
   result_is f n h = ap (result_of p) h
 
-  pub sum_is : (n : ℕ) → n ≡ (p.a + p.b) % 2 ^ 64 → result_of p (known_val n p.ty) ≡ arithmetic ◌+ℤ◌ p
-  sum_is n h =
-      result_is ◌+ℤ◌ n
-      (known_is n (read_as p.ty p.a +ℤ read_as p.ty p.b) p.ty
-      (ap (λ (k : ℕ). low_bits k p.ty.bits) h ∙ low_low p.ty.bits (p.a + p.b)
+  pub sum_is : result_of p (known_val ((p.a + p.b) % 2 ^ 64) p.ty) ≡ arithmetic ◌+ℤ◌ p
+  sum_is =
+      result_is ◌+ℤ◌ ((p.a + p.b) % 2 ^ 64)
+      (known_is ((p.a + p.b) % 2 ^ 64) (read_as p.ty p.a +ℤ read_as p.ty p.b) p.ty
+      (low_low p.ty.bits (p.a + p.b)
       ∙ sym (residue_add (width p.ty.bits) (read_as p.ty p.a) (read_as p.ty p.b) p.a p.b (agree_read p.ty p.a) (agree_read p.ty p.b))))
 
-  pub difference_is : (n : ℕ) → (n + p.b) % 2 ^ 64 ≡ p.a → result_of p (known_val n p.ty) ≡ arithmetic ◌-ℤ◌ p
-  difference_is n h =
+  pub difference_is : p.b < 2 ^ 64 → result_of p (known_val ((p.a + (2 ^ 64 - p.b)) % 2 ^ 64) p.ty) ≡ arithmetic ◌-ℤ◌ p
+  difference_is h =
+      let n : ℕ = (p.a + (2 ^ 64 - p.b)) % 2 ^ 64 in
+      let e : (n + p.b) % 2 ^ 64 ≡ p.a % 2 ^ 64 = omega arith in
       result_is ◌-ℤ◌ n
       (known_is n (read_as p.ty p.a -ℤ read_as p.ty p.b) p.ty
       (sym (residue_sub (width p.ty.bits) (read_as p.ty p.a) (read_as p.ty p.b) p.a p.b n (agree_read p.ty p.a) (agree_read p.ty p.b)
-      (sym (low_low p.ty.bits (n + p.b)) ∙ ap (λ (k : ℕ). low_bits k p.ty.bits) h))))
+      (sym (low_low p.ty.bits (n + p.b)) ∙ ap (λ (k : ℕ). low_bits k p.ty.bits) e ∙ low_low p.ty.bits p.a))))
 
-  pub product_is : (n : ℕ) → n ≡ p.a * p.b % 2 ^ 64 → result_of p (known_val n p.ty) ≡ arithmetic ◌*ℤ◌ p
-  product_is n h =
-      result_is ◌*ℤ◌ n
-      (known_is n (read_as p.ty p.a *ℤ read_as p.ty p.b) p.ty
-      (ap (λ (k : ℕ). low_bits k p.ty.bits) h ∙ low_low p.ty.bits (p.a * p.b)
+  pub product_is : result_of p (known_val (p.a * p.b % 2 ^ 64) p.ty) ≡ arithmetic ◌*ℤ◌ p
+  product_is =
+      result_is ◌*ℤ◌ (p.a * p.b % 2 ^ 64)
+      (known_is (p.a * p.b % 2 ^ 64) (read_as p.ty p.a *ℤ read_as p.ty p.b) p.ty
+      (low_low p.ty.bits (p.a * p.b)
       ∙ sym (residue_mul (width p.ty.bits) (read_as p.ty p.a) (read_as p.ty p.b) p.a p.b (agree_read p.ty p.a) (agree_read p.ty p.b))))
 
 -- ---- division, by signs and magnitudes
@@ -97,15 +91,22 @@ pub remainder_sized : (x y : ℤ) → sized (is_negative x) (nat_abs x % nat_abs
 remainder_sized (pos a) y = refl
 remainder_sized (negsuc a) y = refl
 
+module _ (p : Operands) where
+  pub quotient_is : result_of p (known_val (residue 64 (sized (not (beq (is_negative (read_as p.ty p.a)) (is_negative (read_as p.ty p.b)))) (nat_abs (read_as p.ty p.a) / nat_abs (read_as p.ty p.b)))) p.ty) ≡ arithmetic quot_z p
+  quotient_is = result_is p quot_z _ (word_is _ _ p.ty (ap (residue 64) (quotient_sized (read_as p.ty p.a) (read_as p.ty p.b))))
+
+  pub remainder_is : result_of p (known_val (residue 64 (sized (is_negative (read_as p.ty p.a)) (nat_abs (read_as p.ty p.a) % nat_abs (read_as p.ty p.b)))) p.ty) ≡ arithmetic rem_z p
+  remainder_is = result_is p rem_z _ (word_is _ _ p.ty (ap (residue 64) (remainder_sized (read_as p.ty p.a) (read_as p.ty p.b))))
+
 -- ---- shifts
 
 pub count_lt : (l r : Val) → count_of l r < 64
 count_lt l r = omega (arith, and_le_r (low_bits r.number r.bits) (width l.bits - 1))
 
-pub left_is : (v : Val) (k n : ℕ) → n ≡ (v.number * k) % 2 ^ 64 → known_val n (type_of_val v) ≡ convert (meaning v *ℤ pos k) (type_of_val v)
-left_is v k n h =
-    known_is n (meaning v *ℤ pos k) (type_of_val v)
-    (ap (λ (x : ℕ). low_bits x v.bits) h ∙ low_low v.bits (v.number * k)
+pub left_is : (v : Val) (k : ℕ) → known_val (v.number * k % 2 ^ 64) (type_of_val v) ≡ convert (meaning v *ℤ pos k) (type_of_val v)
+left_is v k =
+    known_is (v.number * k % 2 ^ 64) (meaning v *ℤ pos k) (type_of_val v)
+    (low_low v.bits (v.number * k)
     ∙ sym (residue_mul (width v.bits) (meaning v) (pos k) v.number k (agree_read (type_of_val v) v.number) refl))
 
 mag_by : (t : Ty) (n : ℕ) (b : Bool) → is_negative (read_as t n) ≡ b → mag (read_as t n) < 2 ^ 64
@@ -126,6 +127,7 @@ right_minus (negsuc a) m l h =
     ap (λ (x : ℕ). 2 ^ 64 - 1 - x / m) {x = 2 ^ 64 - 1 - (2 ^ 64 - suc (a % 2 ^ 64))} {y = a} (omega (arith, mod-eq_of_lt l))
     ∙ omega (arith, mod-eq_of_lt (lt_of_le_of_lt (div-le_self a m) l))
 
-pub right_plus : (z : ℤ) (m : ℕ) → mag z < 2 ^ 64 → is_negative z ≡ false → residue 64 z / m ≡ residue 64 (shr_z z m)
-right_plus (pos a) m l h = ap (λ (x : ℕ). x / m) (mod-eq_of_lt l) ∙ sym (mod-eq_of_lt (lt_of_le_of_lt (div-le_self a m) l))
-right_plus (negsuc a) m l h = absurd (true≢false h)
+-- the complement of a word below zero is shifted, and complemented again
+pub right_below : (l r : Val) → is_negative (meaning l) ≡ true → known_val (2 ^ 64 - 1 - (2 ^ 64 - 1 - residue 64 (meaning l)) / 2 ^ count_of l r) (type_of_val l) ≡ convert (shr_z (meaning l) (2 ^ count_of l r)) (type_of_val l)
+right_below l r h =
+    word_is _ (shr_z (meaning l) (2 ^ count_of l r)) (type_of_val l) (right_minus (meaning l) (2 ^ count_of l r) (mag_lt (type_of_val l) l.number) h)

@@ -1,7 +1,7 @@
 -- Laws of `reading`: the integer that bits stand for is congruent to them, and which integer it is.
 -- Assumes nothing.
-use Rattle.std.proofs.Common.{◌≡◌, ℕ, zero, suc, ◌+◌, ◌-◌, ◌/◌, ◌%◌, ◌^◌, ◌<◌, ◌≤◌, Bool, true, false, cond, not, ltb, leb, ℤ, pos, negsuc, ◌-ℤ◌, neg_ℤ, nat_abs, sym, refl, ap, ◌∙◌, ap₂, true≢false, not-suc-le-zero, mod-lt, mul_comm, add_comm, pow-suc, zero-add, sub-one, arith, pow_pos, ltb-false, ltb-true, le-ltb, lt-ltb, le-leb}
-use mathlib.Core.Bool.{beq, false≢true}
+use Rattle.std.proofs.Common.{◌≡◌, ℕ, zero, suc, ◌-◌, ◌/◌, ◌%◌, ◌^◌, ◌<◌, ◌≤◌, Bool, true, false, cond, not, ltb, leb, ℤ, pos, negsuc, ◌-ℤ◌, neg_ℤ, sym, refl, ap, ◌∙◌, not-suc-le-zero, mod-lt, mul_comm, add_comm, pow-suc, zero-add, sub-one, arith, pow_pos, ltb-false, ltb-true, le-ltb, lt-ltb, le-leb}
+use mathlib.Core.Bool.{false≢true}
 use native.Mathlib.Nat.{zero-mod, mod-mod, mul-mod_left}
 use borrow.Author.Tests.{lt-leb}
 use lib.Signed.{lt_z, le_z}
@@ -66,6 +66,11 @@ sign_by w n l false h = sym (ap is_negative (reading_low w n (ltb-false ((2 ^ w 
 pub sign_law : (w n : ℕ) → n < 2 ^ w → ltb ((2 ^ w - 1) / 2) n ≡ is_negative (reading true w n)
 sign_law w n l = sign_by w n l (ltb ((2 ^ w - 1) / 2) n) refl
 
+pub negative_is : (t : Ty) (n : ℕ) → t.signed ≡ true → ltb ((2 ^ width t.bits - 1) / 2) (low_bits n t.bits) ≡ is_negative (read_as t n)
+negative_is t n e =
+    sign_law (width t.bits) (low_bits n t.bits) (bits_lt n t.bits)
+    ∙ ap (λ (s : Bool). is_negative (reading s (width t.bits) (low_bits n t.bits))) (sym e)
+
 pub above : (s : Bool) (w n : ℕ) → n < 2 ^ w → is_negative (reading s w n) ≡ true → (2 ^ w - 1) / 2 < n
 above true w n l h = ltb-true ((2 ^ w - 1) / 2) n (sign_law w n l ∙ h)
 above false w n l h = absurd (false≢true h)
@@ -78,39 +83,7 @@ pub read_plus : (s : Bool) (w n : ℕ) → n < 2 ^ w → is_negative (reading s 
 read_plus true w n l h = reading_low w n (ltb-false ((2 ^ w - 1) / 2) n (sign_law w n l ∙ h))
 read_plus false w n l h = refl
 
--- ---- its magnitude
-
-pub magnitude_minus : (t : Ty) (n : ℕ) → is_negative (read_as t n) ≡ true → 2 ^ width t.bits - 1 - low_bits n t.bits + 1 ≡ nat_abs (read_as t n)
-magnitude_minus t n h =
-    let l : low_bits n t.bits < 2 ^ width t.bits = bits_lt n t.bits in
-    sym (ap nat_abs (read_minus t.signed (width t.bits) (low_bits n t.bits) l h) ∙ omega arith)
-
-pub magnitude_plus : (t : Ty) (n : ℕ) → is_negative (read_as t n) ≡ false → low_bits n t.bits ≡ nat_abs (read_as t n)
-magnitude_plus t n h = sym (ap nat_abs (read_plus t.signed (width t.bits) (low_bits n t.bits) (bits_lt n t.bits) h))
-
 -- ---- the order
-
-flipped : (N a b : ℕ) → a < N → b < N → (t : Bool) → ltb a b ≡ t → t ≡ ltb (N - suc b) (N - suc a)
-flipped N a b la lb true h = let l : a < b = ltb-true a b h in sym (lt-ltb (N - suc b) (N - suc a) (omega arith))
-flipped N a b la lb false h = let l : b ≤ a = ltb-false a b h in sym (le-ltb (N - suc b) (N - suc a) (omega arith))
-
-module _ (t : Ty) (a b : ℕ) where
-  pub order_same : (x y : Bool) → is_negative (read_as t a) ≡ x → is_negative (read_as t b) ≡ y → x ≡ y → ltb (low_bits a t.bits) (low_bits b t.bits) ≡ lt_z (read_as t a) (read_as t b)
-  order_same true true p q e =
-      flipped (2 ^ width t.bits) (low_bits a t.bits) (low_bits b t.bits) (bits_lt a t.bits) (bits_lt b t.bits) (ltb (low_bits a t.bits) (low_bits b t.bits)) refl
-      ∙ sym (ap₂ lt_z (read_minus t.signed (width t.bits) (low_bits a t.bits) (bits_lt a t.bits) p) (read_minus t.signed (width t.bits) (low_bits b t.bits) (bits_lt b t.bits) q))
-  order_same true false p q e = absurd (true≢false e)
-  order_same false true p q e = absurd (false≢true e)
-  order_same false false p q e =
-      sym (ap₂ lt_z (read_plus t.signed (width t.bits) (low_bits a t.bits) (bits_lt a t.bits) p) (read_plus t.signed (width t.bits) (low_bits b t.bits) (bits_lt b t.bits) q))
-
-  pub order_apart : (x y : Bool) → is_negative (read_as t a) ≡ x → is_negative (read_as t b) ≡ y → beq x y ≡ false → x ≡ lt_z (read_as t a) (read_as t b)
-  order_apart true true p q e = absurd (true≢false e)
-  order_apart true false p q e =
-      sym (ap₂ lt_z (read_minus t.signed (width t.bits) (low_bits a t.bits) (bits_lt a t.bits) p) (read_plus t.signed (width t.bits) (low_bits b t.bits) (bits_lt b t.bits) q))
-  order_apart false true p q e =
-      sym (ap₂ lt_z (read_plus t.signed (width t.bits) (low_bits a t.bits) (bits_lt a t.bits) p) (read_minus t.signed (width t.bits) (low_bits b t.bits) (bits_lt b t.bits) q))
-  order_apart false false p q e = absurd (true≢false e)
 
 leb_not : (a b : ℕ) (t : Bool) → ltb b a ≡ t → not t ≡ leb a b
 leb_not a b true h = sym (lt-leb a b (ltb-true b a h))
@@ -122,13 +95,3 @@ le_z_not (pos a) (pos b) = leb_not a b (ltb b a) refl
 le_z_not (pos a) (negsuc b) = refl
 le_z_not (negsuc a) (pos b) = refl
 le_z_not (negsuc a) (negsuc b) = leb_not b a (ltb a b) refl
-
-pub same : (x y : Bool) → beq x y ≡ true → x ≡ y
-same true true e = refl
-same true false e = absurd (false≢true e)
-same false true e = absurd (false≢true e)
-same false false e = refl
-
--- what is below zero has bits
-pub minus_above : (t : Ty) (n : ℕ) → is_negative (read_as t n) ≡ true → 0 < low_bits n t.bits
-minus_above t n h = omega (arith, above t.signed (width t.bits) (low_bits n t.bits) (bits_lt n t.bits) h)

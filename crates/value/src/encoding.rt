@@ -6,14 +6,15 @@ ghost use Rattle.value.specs.Encoding.{value_size, val_bytes, val_at};
 use super::Val;
 
 // The value whose bytes start at an index.
+#[tactic(auto, using(crate::proofs::EncodingLaws::val_read))]
 pub fn get_val(s: &[u8], at: usize) -> Val
     requires { at + value_size ≤ length s.now }
     ensures { result ≡ val_at s.now at }
 {
-    let known = layout::get8(s, at);
-    let signed = layout::get8(s, at + 1);
-    let bits = layout::get32(s, at + 2);
-    let number = layout::get64(s, at + 6);
+    let known = layout::get::<1>(s, at);
+    let signed = layout::get::<1>(s, at + 1);
+    let bits = layout::get::<4>(s, at + 2);
+    let number = layout::get::<8>(s, at + 6);
     Val {
         known: known != 0,
         signed: signed != 0,
@@ -23,12 +24,13 @@ pub fn get_val(s: &[u8], at: usize) -> Val
 }
 
 // A value's bytes from an index on.
+#[tactic(auto, using(crate::proofs::EncodingLaws::val_written))]
 pub fn put_val(s: &mut [u8], at: usize, v: Val)
     requires { at + value_size ≤ length s.old }
     ensures { s.new ≡ sets s.old at (val_bytes v) }
 {
-    layout::put8(s, at, v.known as u64);
-    layout::put8(s, at + 1, v.signed as u64);
-    layout::put32(s, at + 2, v.bits as u64);
-    layout::put64(s, at + 6, v.number);
+    layout::put::<1>(s, at, v.known as u64);
+    layout::put::<1>(s, at + 1, v.signed as u64);
+    layout::put::<4>(s, at + 2, v.bits as u64);
+    layout::put::<8>(s, at + 6, v.number);
 }

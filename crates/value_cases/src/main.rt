@@ -1,45 +1,53 @@
 // Runs the value layer on rows that the original answered, and says how many rows of each file agree.
 #![tactic(auto)]
 
+ghost use Rattle.std.specs.Prelude.{◌<◌};
+
 mod equal;
 mod rows;
 
-use rows::File;
 use std::rt::Files;
 use std::{fs, io};
 
-fn say(rt: &impl Print, what: &str, good: u64, of: u64) -> io::Result<()> {
-    println!(rt; "{what}: {good} of {of}")
+// A file of rows of one length, and what they are about.
+#[derive(Clone, Copy)]
+pub struct Cases {
+    pub what: &'static str,
+    pub path: &'static str,
+    pub length: usize,
+    pub rows: usize,
 }
 
-// The rows that agree of the groups' file; none where it cannot be opened.
-fn groups(rt: &impl Files) -> u64 {
-    match fs::open(rt, "equal.bin") {
-        Ok(mut reader) => equal::groups(&mut reader),
+// Says how many of a file's rows agree; none does where it cannot be read. A row may count on its number.
+fn compare<F: Fn(usize, &[u8]) -> anyhow::Result<bool>>(
+    rt: &(impl Files + Alloc + Print),
+    cases: Cases,
+    agrees: F,
+) -> io::Result<()>
+    requires long { 0 < cases.length }
+    requires callable { F.IsAlwaysCallable agrees }
+{
+    let Cases {
+        what,
+        path,
+        length,
+        rows,
+    } = cases;
+    let good = match fs::read(rt, path) {
+        Ok(file) => file
+            .chunks_exact(length)
+            .take(rows)
+            .enumerate()
+            .filter(|(i, row)| agrees(*i, *row).is_ok_and(|good| good))
+            .count(),
         Err(_) => 0,
-    }
-}
-
-// The rows that agree of another file; none where it cannot be opened.
-fn agreeing(rt: &impl Files, path: &str, file: File, rows: u64) -> u64 {
-    match fs::open(rt, path) {
-        Ok(mut reader) => rows::agreeing(file, &mut reader, rows),
-        Err(_) => 0,
-    }
+    };
+    println!(rt; "{what}: {good} of {rows}")
 }
 
 fn main(rt: HostRuntime) -> io::Result<()> {
-    let good = groups(&rt);
-    say(
-        &rt,
-        "operands of one width",
-        good,
-        equal::GROUPS * equal::ROWS,
-    )?;
-    let good = agreeing(&rt, "mixed.bin", File::Mixed, rows::MIXED);
-    say(&rt, "operands of any width", good, rows::MIXED)?;
-    let good = agreeing(&rt, "casts.bin", File::Casts, rows::CASTS);
-    say(&rt, "casts", good, rows::CASTS)?;
-    let good = agreeing(&rt, "types.bin", File::Types, rows::TYPES);
-    say(&rt, "spellings of types", good, rows::TYPES)
+    compare(&rt, equal::CASES, equal::agrees)?;
+    compare(&rt, rows::MIXED, |_, row| rows::mixed(row))?;
+    compare(&rt, rows::CASTS, |_, row| rows::cast(row))?;
+    compare(&rt, rows::TYPES, |_, row| rows::spelled(row))
 }

@@ -1,143 +1,90 @@
 // Rows that hold operands and answer. A value has 10 bytes: flags u8 (1 known, 2 signed, 4 a division by zero), width u8, number u64.
-ghost use Rattle.std.specs.Prelude.{◌+◌, ◌≤◌, length};
+use crate::Cases;
+use anyhow::ensure;
+use bytes::Buf;
+use value::{ArithmeticError, BinaryOp, Ty, Val};
 
-use spelling::Pointee;
-use std::io::Read;
-use value::{Answer, BinaryOp, Ty, Val};
+pub const MIXED: Cases = Cases {
+    what: "operands of any width",
+    path: "mixed.bin",
+    length: 31,
+    rows: 4000,
+};
 
-pub const MIXED: u64 = 4000;
+pub const CASTS: Cases = Cases {
+    what: "casts",
+    path: "casts.bin",
+    length: 22,
+    rows: 1536,
+};
 
-pub const CASTS: u64 = 1536;
+pub const TYPES: Cases = Cases {
+    what: "spellings of types",
+    path: "types.bin",
+    length: 69,
+    rows: 278,
+};
 
-pub const TYPES: u64 = 278;
-
-#[derive(Clone, Copy)]
-pub enum File {
-    Mixed,
-    Casts,
-    Types,
-}
-
-// What the original gave.
-#[derive(Clone, Copy)]
-pub struct Expected {
-    pub by_zero: bool,
-    pub known: bool,
-    pub signed: bool,
-    pub bits: u32,
-    pub number: u64,
-}
-
-impl Expected {
-    pub fn same(self, answer: Answer) -> bool {
-        match answer {
-            Answer::Value(v) => !self.by_zero & self.same_value(v),
-            Answer::DivisionByZero => self.by_zero,
-        }
+fn take_answer(row: &mut &[u8]) -> anyhow::Result<Result<Val, ArithmeticError>> {
+    let flags = row.try_get_u8()?;
+    let bits = row.try_get_u8()? as u32;
+    let number = row.try_get_u64_le()?;
+    if 4 <= flags {
+        return Ok(Err(ArithmeticError::DivisionByZero));
     }
-
-    fn same_value(self, v: Val) -> bool {
-        (self.known == v.known)
-            & (self.signed == v.signed)
-            & (self.bits == v.bits)
-            & (self.number == v.number)
-    }
-}
-
-fn answer_at(row: &[u8], at: usize) -> Expected
-    requires { at + 10 ≤ length row.now }
-{
-    let flags = layout::get8(row, at);
-    Expected {
-        by_zero: 4 <= flags,
+    Ok(Ok(Val {
         known: flags % 2 == 1,
         signed: flags / 2 % 2 == 1,
-        bits: layout::get8(row, at + 1) as u32,
-        number: layout::get64(row, at + 2),
-    }
+        bits,
+        number,
+    }))
 }
 
-fn operand(row: &[u8], at: usize) -> Val
-    requires { at + 10 ≤ length row.now }
-{
-    let e = answer_at(row, at);
-    if e.known {
-        Val::known(e.number, e.bits, e.signed)
+fn take_operand(row: &mut &[u8]) -> anyhow::Result<Val> {
+    let flags = row.try_get_u8()?;
+    let ty = Ty::new(row.try_get_u8()? as u32, flags / 2 % 2 == 1);
+    let number = row.try_get_u64_le()?;
+    Ok(if flags % 2 == 1 {
+        Val::known(number, ty)
     } else {
-        Val::unknown(e.bits, e.signed)
-    }
+        Val::unknown(ty)
+    })
+}
+
+// width u8, signed u8
+fn take_type(row: &mut &[u8]) -> anyhow::Result<Ty> {
+    let bits = row.try_get_u8()? as u32;
+    Ok(Ty::new(bits, row.try_get_u8()? == 1))
 }
 
 // operator u8, left, right, answer
-fn mixed_row(row: &[u8; 31]) -> bool {
-    let op = BinaryOp::of(row[0]);
-    let left = operand(&row[..], 1);
-    let right = operand(&row[..], 11);
-    answer_at(&row[..], 21).same(value::binary(op, left, right))
+pub fn mixed(mut row: &[u8]) -> anyhow::Result<bool> {
+    let op = BinaryOp::from(row.try_get_u8()?);
+    let left = take_operand(&mut row)?;
+    let right = take_operand(&mut row)?;
+    Ok(value::binary(op, left, right) == take_answer(&mut row)?)
 }
 
-fn next_mixed<R: Read>(reader: &mut R) -> bool {
-    let mut row = [0u8; 31];
-    reader.read_exact(&mut row).is_ok() & mixed_row(&row)
+// operand, type, answer
+pub fn cast(mut row: &[u8]) -> anyhow::Result<bool> {
+    let operand = take_operand(&mut row)?;
+    let ty = take_type(&mut row)?;
+    Ok(take_answer(&mut row)? == Ok(operand.cast(ty)))
 }
 
-// operand, width u8, signed u8, answer
-fn cast_row(row: &[u8; 22]) -> bool {
-    let ty = Ty {
-        bits: layout::get8(&row[..], 10) as u32,
-        signed: row[11] == 1,
+// length u8, 64 bytes of spelling, its type, and the type of what it points at (of width 0 if it is no pointer's)
+pub fn spelled(mut row: &[u8]) -> anyhow::Result<bool> {
+    let length = row.try_get_u8()? as usize;
+    let mut text = [0u8; 64];
+    row.try_copy_to_slice(&mut text)?;
+    ensure!(length <= 64, "a spelling is too long");
+    let spelling = &text[..length];
+    let ty = take_type(&mut row)?;
+    let pointee = take_type(&mut row)?;
+    let points = if pointee.bits == 0 {
+        None
+    } else {
+        Some(pointee)
     };
-    answer_at(&row[..], 12).same(Answer::Value(operand(&row[..], 0).cast(ty)))
-}
-
-fn next_cast<R: Read>(reader: &mut R) -> bool {
-    let mut row = [0u8; 22];
-    reader.read_exact(&mut row).is_ok() & cast_row(&row)
-}
-
-fn is_type(ty: Ty, bits: u8, signed: u8) -> bool {
-    (ty.bits == bits as u32) & (ty.signed == (signed == 1))
-}
-
-// length u8, 64 bytes of spelling, width u8, signed u8, and of what it points at width u8 (0 if it is no pointer's), signed u8
-fn type_row(row: &[u8]) -> bool {
-    if row.len() < 69 {
-        return false;
-    }
-    let end = layout::get8(row, 0) as usize + 1;
-    if 65 < end {
-        return false;
-    }
-    let spelling = &row[1..end];
-    let points = match spelling::points_at(spelling) {
-        Pointee::Of(ty) => is_type(ty, row[67], row[68]),
-        Pointee::NoPointer => row[67] == 0,
-    };
-    is_type(spelling::type_of(spelling), row[65], row[66]) & points
-}
-
-fn next_type<R: Read>(reader: &mut R) -> bool {
-    let mut row = [0u8; 69];
-    reader.read_exact(&mut row).is_ok() & type_row(&row)
-}
-
-fn next_agrees<R: Read>(file: File, reader: &mut R) -> bool {
-    match file {
-        File::Mixed => next_mixed(reader),
-        File::Casts => next_cast(reader),
-        File::Types => next_type(reader),
-    }
-}
-
-// How many of a file's rows agree.
-pub fn agreeing<R: Read>(file: File, reader: &mut R, rows: u64) -> u64 {
-    let mut good = 0;
-    let mut k = 0;
-    while k < rows {
-        if next_agrees(file, reader) {
-            good += 1;
-        }
-        k += 1;
-    }
-    good
+    Ok(spelling::type_of(spelling) == ty && spelling::points_at(spelling) == points)
 }

@@ -1,84 +1,33 @@
 // The cases of the file, one after the other, each run and compared.
+use crate::cases::Store;
 use crate::tally::Tally;
-use crate::{answers, store, tally, unpack};
-use std::io;
-use std::io::Read;
+use crate::{answers, cases, coding};
+use anyhow::ensure;
+use bytes::Buf;
+use std::alloc::Global;
 
-// `VEC1` as a number.
-const VEC1: usize = 826492246;
+// The file's first bytes.
+const KIND: &[u8] = b"VEC1";
 
-// None where the case is not well made.
-fn compare_case(case: &[u8], store: &mut [u8]) -> Tally {
-    let at = store::take(case, store);
-    if case.len() < at {
-        return Tally::none();
+// `VEC1`, the count of cases u32, and for each its length u32 and its bytes. A case that is not well made ends the program.
+pub fn replay(rt: &impl Print, alloc: Global, mut file: &[u8]) -> anyhow::Result<()> {
+    ensure!(
+        coding::next(&mut file, KIND.len())? == KIND,
+        "it is no file of cases"
+    );
+    let count = file.try_get_u32_le()?;
+    let mut tally = Tally::default();
+    let mut store = Store::new(alloc);
+    for i in 0..count {
+        let size = file.try_get_u32_le()? as usize;
+        let case = cases::take(coding::next(&mut file, size)?, &mut store)?;
+        let good = answers::agrees(alloc, case, &store)?;
+        if !good {
+            println!(rt; "not as the original answered: case {i}")?;
+        }
+        tally.count(case, good);
     }
-    match unpack::byte(case, 0) {
-        0 => Tally::of_run(answers::compare_run(case, at, store)),
-        _ => Tally::of_constant(answers::compare_constant(case, at, store)),
-    }
-}
-
-// The next number u32 of the file.
-fn next_word<R: Read>(reader: &mut R) -> usize {
-    let mut head = [0u8; 4];
-    match reader.read_exact(&mut head) {
-        Ok(()) => unpack::word(&head, 0) as usize,
-        Err(_) => unpack::BEYOND,
-    }
-}
-
-// The file's first words: `VEC1` and the count of cases, which is given back; 0 for another file.
-pub fn count<R: Read>(rt: &impl Print, reader: &mut R) -> io::Result<usize> {
-    if next_word(reader) != VEC1 {
-        println!(rt; "it is no file of cases")?;
-        return Ok(0);
-    }
-    Ok(next_word(reader))
-}
-
-// Nothing comes after the last case.
-pub fn expect_end<R: Read>(rt: &impl Print, reader: &mut R) -> io::Result<()> {
-    let mut more = [0u8; 1];
-    if reader.read(&mut more)? != 0 {
-        println!(rt; "the file goes on after its cases")?;
-    }
+    ensure!(file.is_empty(), "the file goes on after its cases");
+    tally.say(rt, count)?;
     Ok(())
-}
-
-// The next case: its length u32, and its bytes.
-fn compare_next<R: Read>(reader: &mut R, store: &mut [u8]) -> Tally {
-    let mut space = [0u8; 65536];
-    let page: &mut [u8] = &mut space;
-    let size = next_word(reader);
-    if page.len() < size {
-        return Tally::none();
-    }
-    match reader.read_exact(&mut page[0..size]) {
-        Ok(()) => compare_case(&page[0..size], store),
-        Err(_) => Tally::none(),
-    }
-}
-
-// So many cases, up to the first that is not well made.
-pub fn compare_cases<R: Read>(
-    rt: &impl Print,
-    reader: &mut R,
-    cases: usize,
-    store: &mut [u8],
-) -> io::Result<Tally> {
-    let mut t = Tally::none();
-    let mut left = cases;
-    while 0 < left {
-        let one = compare_next(reader, store);
-        if one.cases() == 0 {
-            return Ok(t);
-        }
-        if !one.all_agree() {
-            tally::tell(rt, t.cases())?;
-        }
-        t = t.plus(one);
-        left -= 1;
-    }
-    Ok(t)
 }

@@ -1,66 +1,44 @@
-// How many cases agree.
+// How many cases of each kind there were, and how many of them agreed.
+use crate::cases::Case;
 use std::io;
 
-// How many cases of each kind there were, and how many of them agreed.
-#[derive(Clone, Copy)]
-pub struct Tally {
-    pub runs: u64,
-    pub good_runs: u64,
-    pub constants: u64,
-    pub good_constants: u64,
+#[derive(Clone, Copy, Default)]
+struct Score {
+    good: u64,
+    all: u64,
 }
 
-fn one_if(good: bool) -> u64 {
-    if good { 1 } else { 0 }
+impl Score {
+    fn count(&mut self, good: bool) {
+        self.good = self.good.wrapping_add(good as u64);
+        self.all = self.all.wrapping_add(1);
+    }
+}
+
+#[derive(Clone, Copy, Default)]
+pub struct Tally {
+    runs: Score,
+    constants: Score,
 }
 
 impl Tally {
-    pub fn none() -> Self {
-        Self {
-            runs: 0,
-            good_runs: 0,
-            constants: 0,
-            good_constants: 0,
+    pub fn count(&mut self, case: Case, good: bool) {
+        match case {
+            Case::Run(_) => self.runs.count(good),
+            Case::Constant(_) => self.constants.count(good),
         }
     }
 
-    pub fn of_run(good: bool) -> Self {
-        Self {
-            runs: 1,
-            good_runs: one_if(good),
-            constants: 0,
-            good_constants: 0,
-        }
+    pub fn say(self, rt: &impl Print, cases: u32) -> io::Result<()> {
+        let Tally { runs, constants } = self;
+        println!(rt; "runs that agree: {} of {}", runs.good, runs.all)?;
+        println!(rt;
+            "values of constants that agree: {} of {}",
+            constants.good, constants.all
+        )?;
+        println!(rt;
+            "cases compared: {} of {cases}",
+            runs.all.wrapping_add(constants.all)
+        )
     }
-
-    pub fn of_constant(good: bool) -> Self {
-        Self {
-            runs: 0,
-            good_runs: 0,
-            constants: 1,
-            good_constants: one_if(good),
-        }
-    }
-
-    pub fn cases(self) -> u64 {
-        std::num::wrapping_add_u64(self.runs, self.constants)
-    }
-
-    pub fn all_agree(self) -> bool {
-        (self.runs == self.good_runs) & (self.constants == self.good_constants)
-    }
-
-    pub fn plus(self, t: Tally) -> Self {
-        Self {
-            runs: std::num::wrapping_add_u64(self.runs, t.runs),
-            good_runs: std::num::wrapping_add_u64(self.good_runs, t.good_runs),
-            constants: std::num::wrapping_add_u64(self.constants, t.constants),
-            good_constants: std::num::wrapping_add_u64(self.good_constants, t.good_constants),
-        }
-    }
-}
-
-// A case that does not agree. Its number counts from 0.
-pub fn tell(rt: &impl Print, case: u64) -> io::Result<()> {
-    println!(rt; "not as the original answered: case {case}")
 }

@@ -1,10 +1,10 @@
 -- The index of blocks read where it lies in the workspace, and the walk of a routine that has none. Assumes nothing.
 use mathlib.Core.Path.{◌≡◌, refl, sym, ap, ◌∙◌, subst}
 use mathlib.Core.List.{List, [], ◌∷◌}
-use mathlib.Core.Option.{none, some}
+use Rattle.std.specs.Prelude.{None, Some, slice_get}
 use Prim.Native.Nat.{ℕ, ◌+◌, ◌<◌}
 use native.Mathlib.Omega.{arith}
-use lib.ListN.{take, drop, get_elem?}
+use lib.ListN.{take, drop}
 use Rattle.files.specs.Program.{Program, Block}
 use Rattle.definition.specs.Act.{done, ◌>>=◌}
 use Rattle.definition.specs.Evaluate.{Env}
@@ -47,7 +47,7 @@ index_room all l = record { room = omega (arith, all.indexed.room, l) }
 
 -- ---- a routine with no block, and one with some
 
-no_blocks : (bs : List Block) → get_elem? bs 0 ≡ none → bs ≡ []
+no_blocks : (bs : List Block) → slice_get bs 0 ≡ None → bs ≡ []
 no_blocks [] h = refl
 no_blocks (b ∷ bs) h = absurd (let z : ◌≡◌ {A = ℕ} 0 1 = cc in omega arith)
 
@@ -55,11 +55,11 @@ walk_none : (P : Program) (E : Env) (limit : ℕ) → P.blocks ≡ [] → walk.w
 unfolding walk.walk_all walk.walk_from ◌>>=◌
 walk_none P E limit e = ap (λ (bs : List Block). elim bs [ [] ↦ done (walk.stops statements.NoBlocks) | b ∷ bs ↦ walk.walk P E limit (walk.before 0) ] >>= finish limit) e
 
-walk_some : (P : Program) (E : Env) (limit : ℕ) {b : Block} → get_elem? P.blocks 0 ≡ some b → walk.walk_all P E limit ≡ walk_on P E limit limit (walk.before 0)
+walk_some : (P : Program) (E : Env) (limit : ℕ) {b : Block} → slice_get P.blocks 0 ≡ Some b → walk.walk_all P E limit ≡ walk_on P E limit limit (walk.before 0)
 unfolding walk.walk_all walk.walk_from
 walk_some P E limit {b} e = go P.blocks e
   where
-    go : (bs : List Block) → get_elem? bs 0 ≡ some b → (elim bs [ [] ↦ done (walk.stops statements.NoBlocks) | b ∷ bs ↦ walk.walk P E limit (walk.before 0) ] >>= finish limit) ≡ walk_on P E limit limit (walk.before 0)
+    go : (bs : List Block) → slice_get bs 0 ≡ Some b → (elim bs [ [] ↦ done (walk.stops statements.NoBlocks) | b ∷ bs ↦ walk.walk P E limit (walk.before 0) ] >>= finish limit) ≡ walk_on P E limit limit (walk.before 0)
     go [] h = absurd (let z : ◌≡◌ {A = ℕ} 0 1 = cc in omega arith)
     go (c ∷ cs) h = refl
 

@@ -2,7 +2,7 @@
 use mathlib.Core.Path.{◌≡◌, refl, sym, ap, ap₂, ◌∙◌, subst, fun_ext}
 use mathlib.Core.Bool.{Bool, true, false, true≢false}
 use mathlib.Core.List.{List}
-use mathlib.Core.Option.{Option, none, some}
+use Rattle.std.specs.Prelude.{Option, None, Some}
 use Prim.Native.Nat.{ℕ, zero, suc, ◌+◌, ◌-◌, ◌*◌, ◌≤◌, ◌<◌}
 use native.Mathlib.Numerals.{add-one}
 use native.Mathlib.Omega.{arith}
@@ -42,10 +42,8 @@ use Rattle.operations.specs.Going as going
 use Rattle.operations.proofs.Registers.{left_word, entered_word, steps_word, left_set, entered_set, steps_set, how_before, aside_aside}
 use Rattle.operations.proofs.Going.{done_goes, goes, halts, acts, told, remains}
 use Rattle.statements.specs.declared.terminators.Spot.{Spot}
-use Rattle.statements.specs.declared.terminators.Next.{Next}
-use Rattle.statements.specs.declared.terminators.Next.TheVariants.{Stops, Goes}
-use Rattle.statements.specs.declared.statements.Halt.{Halt}
-use Rattle.statements.specs.declared.statements.Halt.TheVariants.{Not, With}
+use Rattle.std.specs.declared.ops.ControlFlow.{ControlFlow}
+use Rattle.std.specs.declared.ops.ControlFlow.TheVariants.{Continue, Break}
 use Rattle.statements.specs.Endings.{halt_end, some_end, stops_end, next_end}
 use Rattle.statements.specs.Placing.{Placing}
 use Rattle.walk.specs.Spots.{Here, PlacedAt}
@@ -67,18 +65,18 @@ settle_by E nodes ss blocks p b k t e =
     ap (λ (z : Bool). elim z [ true ↦ done (walk.goes (walk.within b k)) | false ↦ walk.terminate E (block_of nodes ss blocks p).statements (block_of nodes ss blocks p).terminator ])
     (ap (ltb k) (block_length nodes ss blocks p) ∙ e)
 
-outside_stays : (blocks : List ℕ) (p : Place) (b : ℕ) (n : Next) → Outside n → Stays blocks p b n
-outside_stays blocks p b (Stops s) h = tt
-outside_stays blocks p b (Goes s) h = λ e. absurd (true≢false (sym e ∙ h))
+outside_stays : (blocks : List ℕ) (p : Place) (b : ℕ) (n : ControlFlow Stop Spot) → Outside n → Stays blocks p b n
+outside_stays blocks p b (Break s) h = tt
+outside_stays blocks p b (Continue s) h = λ e. absurd (true≢false (sym e ∙ h))
 
 module _ {nodes symbols regions ss blocks : List ℕ} {p : Place} {b k n : ℕ} (count : (n ≡ number_at blocks p.start 2) × (n < 65536)) where
-  pub settles_within : {w o : List ℕ} → k < n → Settles nodes symbols regions ss blocks p b k w o (Goes (record { block = b; statement = k; inside = true })) w o
+  pub settles_within : {w o : List ℕ} → k < n → Settles nodes symbols regions ss blocks p b k w o (Continue (record { block = b; statement = k; inside = true })) w o
   settles_within l = record {
     goes = λ limit. acts (λ h x m. settle_by x.env nodes ss blocks p b k true (lt-ltb k (number_at blocks p.start 2) (omega (arith, count.0)))) (done_goes (λ x. walk.goes (walk.within b k)) (λ h x m. refl));
     stays = λ e. (refl, omega (arith, count.0));
   }
 
-  pub settles_past : {w₀ o₀ w o : List ℕ} {q : Next} → n ≤ k → Terminates nodes symbols regions ss blocks p w₀ o₀ q w o → Settles nodes symbols regions ss blocks p b k w₀ o₀ q w o
+  pub settles_past : {w₀ o₀ w o : List ℕ} {q : ControlFlow Stop Spot} → n ≤ k → Terminates nodes symbols regions ss blocks p w₀ o₀ q w o → Settles nodes symbols regions ss blocks p b k w₀ o₀ q w o
   settles_past {q = q} l t = record {
     goes = λ limit. acts (λ h x m. settle_by x.env nodes ss blocks p b k false (le-ltb k (number_at blocks p.start 2) (omega (arith, count.0)))) (t.goes limit);
     stays = outside_stays blocks p b q t.outside;
@@ -97,15 +95,15 @@ abbrev spot_by : Spot → Bool → Spot
 spot_by s i = record { block = s.block; statement = s.statement; inside = i }
 
 module _ {nodes symbols regions ss : List ℕ} {f : Facts} {p : Place} {s : Spot} where
-  pub runs_statement : {w₀ o₀ w o : List ℕ} {r : Halt} → s.inside ≡ true → RunsStatement nodes symbols regions ss f s.block (p.first + s.statement) w₀ o₀ r w o → RunsAt nodes symbols regions ss f p s w₀ o₀ r w o
+  pub runs_statement : {w₀ o₀ w o : List ℕ} {r : Option Stop} → s.inside ≡ true → RunsStatement nodes symbols regions ss f s.block (p.first + s.statement) w₀ o₀ r w o → RunsAt nodes symbols regions ss f p s w₀ o₀ r w o
   runs_statement e q = record {
     goes = λ P named limit. acts (λ h x m. ap (λ (i : Bool). run_act P x.env nodes ss p (spot_by s i)) e) (q.goes P named limit);
     remains = q.remains;
   }
 
-  pub runs_nothing : {w o : List ℕ} → s.inside ≡ false → ReadyIn (given nodes symbols regions) w → RunsAt nodes symbols regions ss f p s w o Not w o
+  pub runs_nothing : {w o : List ℕ} → s.inside ≡ false → ReadyIn (given nodes symbols regions) w → RunsAt nodes symbols regions ss f p s w o None w o
   runs_nothing e r = record {
-    goes = λ P named limit. acts (λ h x m. ap (λ (i : Bool). run_act P x.env nodes ss p (spot_by s i)) e) (done_goes (λ x. none) (λ h x m. refl));
+    goes = λ P named limit. acts (λ h x m. ap (λ (i : Bool). run_act P x.env nodes ss p (spot_by s i)) e) (done_goes (λ x. None) (λ h x m. refl));
     remains = record { how = refl; units = refl; ready = r; tables = refl };
   }
 
@@ -113,8 +111,8 @@ module _ {nodes symbols regions ss : List ℕ} {f : Facts} {p : Place} {s : Spot
 
 -- the walk settles before statement n, unless what was run stops it
 abbrev settling : Env → (nodes ss blocks : List ℕ) → Place → (b n : ℕ) → Option statements.Stop → Act walk.Next
-settling E nodes ss blocks p b n none = walk.settle E b (block_of nodes ss blocks p) n
-settling E nodes ss blocks p b n (some s) = done (walk.stops s)
+settling E nodes ss blocks p b n None = walk.settle E b (block_of nodes ss blocks p) n
+settling E nodes ss blocks p b n (Some s) = done (walk.stops s)
 
 -- what is run at the spot, and then that
 unit_parts : (P : Program) (E : Env) (nodes ss blocks : List ℕ) (p : Place) (s : Spot)
@@ -123,37 +121,37 @@ unfolding ◌>>=◌
 unit_parts P E nodes ss blocks p s = go s.inside
   where
     onward_is : (o : Option statements.Stop) → walk.onward E s.block (block_of nodes ss blocks p) s.statement o ≡ settling E nodes ss blocks p s.block (s.statement + 1) o
-    onward_is none = ap (walk.settle E s.block (block_of nodes ss blocks p)) (sym (add-one s.statement))
-    onward_is (some h) = refl
+    onward_is None = ap (walk.settle E s.block (block_of nodes ss blocks p)) (sym (add-one s.statement))
+    onward_is (Some h) = refl
 
     go : (i : Bool) → unit_act P E nodes ss blocks p (spot_by s i) ≡ (run_act P E nodes ss p (spot_by s i) >>= settling E nodes ss blocks p s.block (ahead_of (spot_by s i)))
     go true = ap (λ (k : Option statements.Stop → Act walk.Next). statements.run_statement P E s.block (statement_at nodes ss (p.first + s.statement)) >>= k) (fun_ext onward_is)
     go false = refl
 
 stopped_goes : {g : How → Given} {m : Scene → Act (Option statements.Stop)} (f : Scene → Option statements.Stop → Act walk.Next) {w₀ o₀ w o : List ℕ} (e : Ending statements.Stop)
-    → ((x : Scene) (s : statements.Stop) → f x (some s) ≡ done (walk.stops s)) → going.Goes g m w₀ o₀ (some_end e) w o → going.Goes g (λ x. m x >>= f x) w₀ o₀ (stops_end e) w o
+    → ((x : Scene) (s : statements.Stop) → f x (Some s) ≡ done (walk.stops s)) → going.Goes g m w₀ o₀ (some_end e) w o → going.Goes g (λ x. m x >>= f x) w₀ o₀ (stops_end e) w o
 stopped_goes f (ended s) h r = goes f r (acts (λ _ x d. h x s) (done_goes (λ x. walk.stops s) (λ _ x d. refl)))
 stopped_goes f (short y) h r = halts f y r
 
 stopped_kept : (F : Type 0) (e : Ending statements.Stop) → Kept (some_end e) F → Kept (stops_end e) F
 stopped_kept F (ended s) h = h
-stopped_kept F (short none) h = tt
-stopped_kept F (short (some y)) h = h
+stopped_kept F (short None) h = tt
+stopped_kept F (short (Some y)) h = h
 
-kept_halt : (F : Type 0) {h h' : Halt} → h ≡ h' → Kept (halt_end 0 h) F → Kept (halt_end 0 h') F
-kept_halt F e k = subst (λ (h : Halt). Kept (halt_end 0 h) F) e k
+kept_halt : (F : Type 0) {h h' : Option Stop} → h ≡ h' → Kept (halt_end 0 h) F → Kept (halt_end 0 h') F
+kept_halt F e k = subst (λ (h : Option Stop). Kept (halt_end 0 h) F) e k
 
 remains_on : {g : How → Given} {w₀ w w' : List ℕ} → Remains g w₀ w → Remains g w w' → Remains g w₀ w'
 remains_on p q = record { how = q.how ∙ p.how; units = q.units ∙ p.units; ready = q.ready; tables = q.tables ∙ p.tables }
 
-module _ {nodes symbols regions ss : List ℕ} {f : Facts} {p : Place} {s : Spot} {w₀ o₀ w o : List ℕ} {r : Halt} (ran : RunsAt nodes symbols regions ss f p s w₀ o₀ r w o) where
-  left : r ≡ Not → Remains (given nodes symbols regions) w₀ w
+module _ {nodes symbols regions ss : List ℕ} {f : Facts} {p : Place} {s : Spot} {w₀ o₀ w o : List ℕ} {r : Option Stop} (ran : RunsAt nodes symbols regions ss f p s w₀ o₀ r w o) where
+  left : r ≡ None → Remains (given nodes symbols regions) w₀ w
   left e = kept_halt (Remains (given nodes symbols regions) w₀ w) e ran.remains
 
-  pub on_ready : r ≡ Not → ReadyIn (given nodes symbols regions) w
+  pub on_ready : r ≡ None → ReadyIn (given nodes symbols regions) w
   on_ready e = (left e).ready
 
-  pub unit_stops : {blocks : List ℕ} {stop : Stop} → r ≡ With stop → UnitOf nodes symbols regions ss blocks f p s w₀ o₀ (Stops stop) w o
+  pub unit_stops : {blocks : List ℕ} {stop : Stop} → r ≡ Some stop → UnitOf nodes symbols regions ss blocks f p s w₀ o₀ (Break stop) w o
   unit_stops {blocks} {stop} e = record {
     goes = λ P named limit.
         acts (λ h x m. unit_parts P x.env nodes ss blocks p s)
@@ -162,7 +160,7 @@ module _ {nodes symbols regions ss : List ℕ} {f : Facts} {p : Place} {s : Spot
     stays = tt;
   }
 
-  pub unit_settles : {blocks : List ℕ} {n : ℕ} {w' o' : List ℕ} {q : Next} → r ≡ Not → n ≡ ahead_of s → Settles nodes symbols regions ss blocks p s.block n w o q w' o' → UnitOf nodes symbols regions ss blocks f p s w₀ o₀ q w' o'
+  pub unit_settles : {blocks : List ℕ} {n : ℕ} {w' o' : List ℕ} {q : ControlFlow Stop Spot} → r ≡ None → n ≡ ahead_of s → Settles nodes symbols regions ss blocks p s.block n w o q w' o' → UnitOf nodes symbols regions ss blocks f p s w₀ o₀ q w' o'
   unit_settles {blocks} {q = q} e is z = record {
     goes = λ P named limit.
         acts (λ h x m. unit_parts P x.env nodes ss blocks p s)

@@ -2,10 +2,9 @@
 use mathlib.Core.Path.{◌≡◌, refl, sym, ap, ap₂, ◌∙◌, subst}
 use mathlib.Core.Bool.{Bool, true, false, not, true≢false}
 use mathlib.Core.List.{List}
-use mathlib.Core.Option.{Option, none, some}
+use Rattle.std.specs.Prelude.{Option, None, Some, slice_get}
 use Prim.Native.Nat.{ℕ, zero, suc, ◌+◌, ◌≤◌, ◌<◌, ◌^◌}
 use native.Mathlib.Omega.{arith}
-use lib.ListN.{get_elem?}
 use Rattle.layout.specs.Number.{number_at}
 use Rattle.files.specs.Program.{Program, Block, Statement, block_at, statement_at}
 use Rattle.definition.specs.Act.{Act, done, spend, ◌>>=◌}
@@ -34,8 +33,8 @@ use Rattle.operations.specs.Going.{ReadyIn, Remains}
 use Rattle.operations.specs.Going as going
 use Rattle.operations.proofs.Going.{aside_before}
 use Rattle.statements.specs.declared.terminators.Spot.{Spot}
-use Rattle.statements.specs.declared.terminators.Next.{Next}
-use Rattle.statements.specs.declared.terminators.Next.TheVariants.{Stops, Goes}
+use Rattle.std.specs.declared.ops.ControlFlow.{ControlFlow}
+use Rattle.std.specs.declared.ops.ControlFlow.TheVariants.{Continue, Break}
 use Rattle.statements.specs.Endings.{stops_end, place_of}
 use Rattle.walk.specs.Spots.{PlacedAt}
 use Rattle.walk.specs.Units.{Balanced, paid_counts}
@@ -58,67 +57,67 @@ buys P E nodes ss blocks p b k i = (
   ],
 )
 
-unit_by : (P : Program) (E : Env) (nodes ss blocks : List ℕ) (p : Place) (b k : ℕ) (i : Bool) → get_elem? P.blocks b ≡ some (block_of nodes ss blocks p)
-    → (i ≡ true → k < number_at blocks p.start 2) → walk.unit P E (place_by i b k) ≡ some (buys P E nodes ss blocks p b k i)
+unit_by : (P : Program) (E : Env) (nodes ss blocks : List ℕ) (p : Place) (b k : ℕ) (i : Bool) → slice_get P.blocks b ≡ Some (block_of nodes ss blocks p)
+    → (i ≡ true → k < number_at blocks p.start 2) → walk.unit P E (place_by i b k) ≡ Some (buys P E nodes ss blocks p b k i)
 unfolding walk.unit
-unit_by P E nodes ss blocks p b k false e h = ap (λ (o : Option Block). elim o [ none ↦ none | some block ↦ some (true, walk.settle E b block 0) ]) e
+unit_by P E nodes ss blocks p b k false e h = ap (λ (o : Option Block). elim o [ None ↦ None | Some block ↦ Some (true, walk.settle E b block 0) ]) e
 unit_by P E nodes ss blocks p b k true e h =
     ap (λ (o : Option Block). elim o [
-      | none ↦ none
-      | some block ↦ elim (get_elem? block.statements k) [ none ↦ none | some s ↦ some (false, statements.run_statement P E b s >>= walk.onward E b block k) ]
+      | None ↦ None
+      | Some block ↦ elim (slice_get block.statements k) [ None ↦ None | Some s ↦ Some (false, statements.run_statement P E b s >>= walk.onward E b block k) ]
     ]) e
-    ∙ ap (λ (o : Option Statement). elim o [ none ↦ none | some s ↦ some (false, statements.run_statement P E b s >>= walk.onward E b (block_of nodes ss blocks p) k) ])
+    ∙ ap (λ (o : Option Statement). elim o [ None ↦ None | Some s ↦ Some (false, statements.run_statement P E b s >>= walk.onward E b (block_of nodes ss blocks p) k) ])
     (listed_at (statement_at nodes ss) p.first (number_at blocks p.start 2) k (h refl))
 
 module _ {nodes ss blocks part : List ℕ} {f : Facts} (all : Rooted nodes ss blocks part f.blocks) (P : Program) (told : Told nodes ss blocks f P) where
-  pub block_found_at : (b : ℕ) → b < f.blocks → get_elem? P.blocks b ≡ some (block_at nodes ss blocks (block_start blocks b) (block_first blocks b))
-  block_found_at b l = ap (λ (bs : List Block). get_elem? bs b) told.spelled ∙ block_there nodes ss blocks f.blocks all.indexed.full b l
+  pub block_found_at : (b : ℕ) → b < f.blocks → slice_get P.blocks b ≡ Some (block_at nodes ss blocks (block_start blocks b) (block_first blocks b))
+  block_found_at b l = ap (λ (bs : List Block). slice_get bs b) told.spelled ∙ block_there nodes ss blocks f.blocks all.indexed.full b l
 
-  block_found : (b : ℕ) {p : Place} → Placed part b p → b < f.blocks → get_elem? P.blocks b ≡ some (block_of nodes ss blocks p)
+  block_found : (b : ℕ) {p : Place} → Placed part b p → b < f.blocks → slice_get P.blocks b ≡ Some (block_of nodes ss blocks p)
   block_found b is l =
       let q = is.is blocks f.blocks all.indexed l in
       block_found_at b l
-      ∙ ap₂ (λ (i k : ℕ). some (block_at nodes ss blocks i k)) (sym q.start) (sym q.first)
+      ∙ ap₂ (λ (i k : ℕ). Some (block_at nodes ss blocks i k)) (sym q.start) (sym q.first)
 
-  pub block_missing : (b : ℕ) → f.blocks ≤ b → get_elem? P.blocks b ≡ none
-  block_missing b l = ap (λ (bs : List Block). get_elem? bs b) told.spelled ∙ block_none nodes ss blocks f.blocks all.indexed.full b l
+  pub block_missing : (b : ℕ) → f.blocks ≤ b → slice_get P.blocks b ≡ None
+  block_missing b l = ap (λ (bs : List Block). slice_get bs b) told.spelled ∙ block_none nodes ss blocks f.blocks all.indexed.full b l
 
-no_unit : (P : Program) (E : Env) (b : ℕ) → get_elem? P.blocks b ≡ none → walk.unit P E (walk.before b) ≡ none
+no_unit : (P : Program) (E : Env) (b : ℕ) → slice_get P.blocks b ≡ None → walk.unit P E (walk.before b) ≡ None
 unfolding walk.unit
-no_unit P E b e = ap (λ (o : Option Block). elim o [ none ↦ none | some block ↦ some (true, walk.settle E b block 0) ]) e
+no_unit P E b e = ap (λ (o : Option Block). elim o [ None ↦ None | Some block ↦ Some (true, walk.settle E b block 0) ]) e
 
 -- ---- a turn of the definition's walk
 
 abbrev onto : Program → Env → ℕ → walk.Next → Act walk.Next
 onto P E n z = elim z [ walk.stops s ↦ done (walk.stops s) | walk.goes q ↦ walk.walk P E n q ]
 
-walk_turn : (P : Program) (E : Env) (n : ℕ) (pl : walk.Place) (u : Bool × Act walk.Next) → walk.unit P E pl ≡ some u
+walk_turn : (P : Program) (E : Env) (n : ℕ) (pl : walk.Place) (u : Bool × Act walk.Next) → walk.unit P E pl ≡ Some u
     → walk.walk P E (suc n) pl ≡ spend u.0 (λ paid. elim paid [ false ↦ done (walk.goes pl) | true ↦ u.1 >>= onto P E n ])
 unfolding walk.walk
 walk_turn P E n pl u e =
     ap (λ (o : Option (Bool × Act walk.Next)). elim o [
-      | none ↦ done (walk.stops (statements.NoBlock (walk.block_of pl)))
-      | some u ↦ spend u.0 (λ paid. elim paid [ false ↦ done (walk.goes pl) | true ↦ u.1 >>= onto P E n ])
+      | None ↦ done (walk.stops (statements.NoBlock (walk.block_of pl)))
+      | Some u ↦ spend u.0 (λ paid. elim paid [ false ↦ done (walk.goes pl) | true ↦ u.1 >>= onto P E n ])
     ]) e
 
-walk_missing : (P : Program) (E : Env) (n : ℕ) (pl : walk.Place) → walk.unit P E pl ≡ none → walk.walk P E n pl ≡ done (walk.stops (statements.NoBlock (walk.block_of pl)))
+walk_missing : (P : Program) (E : Env) (n : ℕ) (pl : walk.Place) → walk.unit P E pl ≡ None → walk.walk P E n pl ≡ done (walk.stops (statements.NoBlock (walk.block_of pl)))
 unfolding walk.walk
-walk_missing P E zero pl e = ap (λ (o : Option (Bool × Act walk.Next)). elim o [ none ↦ done (walk.stops (statements.NoBlock (walk.block_of pl))) | some u ↦ done (walk.goes pl) ]) e
+walk_missing P E zero pl e = ap (λ (o : Option (Bool × Act walk.Next)). elim o [ None ↦ done (walk.stops (statements.NoBlock (walk.block_of pl))) | Some u ↦ done (walk.goes pl) ]) e
 walk_missing P E (suc n) pl e =
     ap (λ (o : Option (Bool × Act walk.Next)). elim o [
-      | none ↦ done (walk.stops (statements.NoBlock (walk.block_of pl)))
-      | some u ↦ spend u.0 (λ paid. elim paid [ false ↦ done (walk.goes pl) | true ↦ u.1 >>= onto P E n ])
+      | None ↦ done (walk.stops (statements.NoBlock (walk.block_of pl)))
+      | Some u ↦ spend u.0 (λ paid. elim paid [ false ↦ done (walk.goes pl) | true ↦ u.1 >>= onto P E n ])
     ]) e
 
-walk_spent : (P : Program) (E : Env) (pl : walk.Place) {u : Bool × Act walk.Next} → walk.unit P E pl ≡ some u → walk.walk P E 0 pl ≡ done (walk.goes pl)
+walk_spent : (P : Program) (E : Env) (pl : walk.Place) {u : Bool × Act walk.Next} → walk.unit P E pl ≡ Some u → walk.walk P E 0 pl ≡ done (walk.goes pl)
 unfolding walk.walk
-walk_spent P E pl e = ap (λ (o : Option (Bool × Act walk.Next)). elim o [ none ↦ done (walk.stops (statements.NoBlock (walk.block_of pl))) | some u ↦ done (walk.goes pl) ]) e
+walk_spent P E pl e = ap (λ (o : Option (Bool × Act walk.Next)). elim o [ None ↦ done (walk.stops (statements.NoBlock (walk.block_of pl))) | Some u ↦ done (walk.goes pl) ]) e
 
 abbrev pub finish : ℕ → walk.Next → Act statements.Stop
 finish limit z = done (walk.stop_at limit z)
 
 module _ {g : Given} (P : Program) (limit : ℕ) (pl : walk.Place) {b : Bool} (bought : Scene → Act walk.Next) (w₀ o₀ : List ℕ) (a₀ : Counts) (n : ℕ) (left : a₀.tally.left ≡ suc n)
-    (unit : (x : Scene) → Meant g x (tables w₀) → walk.unit P x.env pl ≡ some (b, bought x)) where
+    (unit : (x : Scene) → Meant g x (tables w₀) → walk.unit P x.env pl ≡ Some (b, bought x)) where
   -- the walk is what its first unit buys, and then the walk from there
   lifted : {e : Ending statements.Stop} {w o : List ℕ} {a : Counts} → Runs g (λ x. bought x >>= λ z. onto P x.env n z >>= finish limit) w₀ o₀ (paid_counts b a₀) e w o a
       → Runs g (λ x. walk_on P x.env limit a₀.tally.left pl) w₀ o₀ a₀ e w o a
@@ -165,7 +164,7 @@ module _ {nodes ss blocks part : List ℕ} (f : Facts) {s : Spot} {p : Place} (a
   start_is : p.start ≡ block_start blocks s.block
   start_is = (is.is blocks f.blocks all.indexed l).start
 
-  unit_there : (P : Program) (E : Env) → Told nodes ss blocks f P → walk.unit P E (place_of s) ≡ some (not s.inside, unit_act P E nodes ss blocks p s)
+  unit_there : (P : Program) (E : Env) → Told nodes ss blocks f P → walk.unit P E (place_of s) ≡ Some (not s.inside, unit_act P E nodes ss blocks p s)
   unit_there P E told =
       unit_by P E nodes ss blocks p s.block s.statement s.inside (block_found all P told s.block is l)
       (λ e. omega (arith, at.here e, ap (λ (i : ℕ). number_at blocks i 2) start_is))
@@ -177,11 +176,11 @@ module _ {nodes ss blocks part : List ℕ} (f : Facts) {s : Spot} {p : Place} (a
   }
 
   module _ {symbols regions w₀ o₀ w₁ w o : List ℕ} (ready : ReadyIn (given nodes symbols regions) w₀) (bal : Balanced (counts_in w₀).tally) (some : 0 < (counts_in w₀).tally.left) (pays : Pays (not s.inside) w₀ w₁) where
-    turns_to : (n : Next) → UnitOf nodes symbols regions ss blocks f p s w₁ o₀ n w o → TurnsTo (given nodes symbols regions (how_in w₀)) ss blocks f s w₀ o₀ n w o
-    turns_to (Stops stop) u = λ P told limit.
+    turns_to : (n : ControlFlow Stop Spot) → UnitOf nodes symbols regions ss blocks f p s w₁ o₀ n w o → TurnsTo (given nodes symbols regions (how_in w₀)) ss blocks f s w₀ o₀ n w o
+    turns_to (Break stop) u = λ P told limit.
         walk_stops P limit (place_of s) (λ x. unit_act P x.env nodes ss blocks p s) w₀ o₀ (counts_in w₀) (paid_tally (counts_in w₀).tally.left (not s.inside) (counts_in w₀).tally).left
         (paid_left (counts_in w₀).tally.left (not s.inside) (counts_in w₀).tally some) (λ x h. unit_there P x.env told) (stop_end limit stop) (paid_runs pays ready (u.goes P told.named limit))
-    turns_to (Goes q) u =
+    turns_to (Continue q) u =
         let units = paid_units pays u.remains in
         let one : (counts_in w₀).tally.left ≡ suc (counts_in w).tally.left = paid_left (counts_in w₀).tally.left (not s.inside) (counts_in w₀).tally some ∙ ap (λ (v : Units). suc v.left) units in
         let how = u.remains.how ∙ pays.how in (
@@ -201,7 +200,7 @@ module _ {nodes ss blocks part : List ℕ} (f : Facts) {s : Spot} {p : Place} (a
         )
 
     -- as the code does it
-    pub turned : {q : Next} → UnitOf nodes symbols regions ss blocks f p s w₁ o₀ q w o → Turns (given nodes symbols regions (how_in w₀)) ss blocks f s w₀ o₀ q w o
+    pub turned : {q : ControlFlow Stop Spot} → UnitOf nodes symbols regions ss blocks f p s w₁ o₀ q w o → Turns (given nodes symbols regions (how_in w₀)) ss blocks f s w₀ o₀ q w o
     turned {q} u = record { turns = turns_to q u }
 
 -- ---- the walk so far: what is left to do is the walk from here
@@ -232,11 +231,11 @@ module _ {nodes symbols regions ss blocks : List ℕ} {f : Facts} {w₀ o₀ : L
   ready_so : Ready (given nodes symbols regions (how_in w₀)) w (counts_in w)
   ready_so = subst (λ (h : How). Ready (given nodes symbols regions h) w (counts_in w)) so.how so.ready.ready
 
-  module _ {n : Next} {w' o' : List ℕ} (turn : Turns (given nodes symbols regions (how_in w)) ss blocks f s w o n w' o') where
-    gone : {m : Next} → n ≡ m → TurnsTo (given nodes symbols regions (how_in w₀)) ss blocks f s w o m w' o'
-    gone {m} e = subst (λ (h : How). TurnsTo (given nodes symbols regions h) ss blocks f s w o m w' o') so.how (subst (λ (m : Next). TurnsTo (given nodes symbols regions (how_in w)) ss blocks f s w o m w' o') e turn.turns)
+  module _ {n : ControlFlow Stop Spot} {w' o' : List ℕ} (turn : Turns (given nodes symbols regions (how_in w)) ss blocks f s w o n w' o') where
+    gone : {m : ControlFlow Stop Spot} → n ≡ m → TurnsTo (given nodes symbols regions (how_in w₀)) ss blocks f s w o m w' o'
+    gone {m} e = subst (λ (h : How). TurnsTo (given nodes symbols regions h) ss blocks f s w o m w' o') so.how (subst (λ (m : ControlFlow Stop Spot). TurnsTo (given nodes symbols regions (how_in w)) ss blocks f s w o m w' o') e turn.turns)
 
-    pub goes_on : {q : Spot} → n ≡ Goes q → Left nodes symbols regions ss blocks f w₀ o₀ q w' o'
+    pub goes_on : {q : Spot} → n ≡ Continue q → Left nodes symbols regions ss blocks f w₀ o₀ q w' o'
     goes_on e = record {
       ready = record { ready = subst (λ (h : How). Ready (given nodes symbols regions h) w' (counts_in w')) (sym ((gone e).0.how ∙ so.how)) (gone e).0.ready };
       how = (gone e).0.how ∙ so.how;
@@ -246,10 +245,10 @@ module _ {nodes symbols regions ss blocks : List ℕ} {f : Facts} {w₀ o₀ : L
       rest = λ P told limit d w'' o'' a'' q. so.rest P told limit d w'' o'' a'' ((gone e).1 P told limit d w'' o'' a'' q);
     }
 
-    pub goes_less : {q : Spot} → n ≡ Goes q → (counts_in w').tally.left < (counts_in w).tally.left
+    pub goes_less : {q : Spot} → n ≡ Continue q → (counts_in w').tally.left < (counts_in w).tally.left
     goes_less e = (gone e).0.less
 
-    pub stops_with : {stop : Stop} → n ≡ Stops stop → WalksFrom (given nodes symbols regions (how_in w₀)) ss blocks f w₀ o₀ stop w' o'
+    pub stops_with : {stop : Stop} → n ≡ Break stop → WalksFrom (given nodes symbols regions (how_in w₀)) ss blocks f w₀ o₀ stop w' o'
     stops_with {stop} e = record { runs = λ P told limit. so.rest P told limit (stop_end limit stop) w' o' (counts_in w') (gone e P told limit) }
 
   -- no unit is left for a block that is there
@@ -265,7 +264,7 @@ module _ {nodes symbols regions ss blocks : List ℕ} {f : Facts} {w₀ o₀ : L
       p : Place
       p = record { start = block_start blocks s.block; first = block_first blocks s.block }
 
-      there : (P : Program) (E : Env) → Told nodes ss blocks f P → walk.unit P E (place_of s) ≡ some (buys P E nodes ss blocks p s.block s.statement s.inside)
+      there : (P : Program) (E : Env) → Told nodes ss blocks f P → walk.unit P E (place_of s) ≡ Some (buys P E nodes ss blocks p s.block s.statement s.inside)
       there P E told =
           unit_by P E nodes ss blocks p s.block s.statement s.inside
           (block_found_at so.rooted P told s.block l)
@@ -286,5 +285,5 @@ module _ {nodes symbols regions ss blocks : List ℕ} {f : Facts} {w₀ o₀ : L
       outside false e = refl
       outside true e = absurd (omega (arith, so.placed.block e, l))
 
-      missing : (P : Program) (E : Env) → Told nodes ss blocks f P → walk.unit P E (walk.before s.block) ≡ none
+      missing : (P : Program) (E : Env) → Told nodes ss blocks f P → walk.unit P E (walk.before s.block) ≡ None
       missing P E told = no_unit P E s.block (block_missing so.rooted P told s.block l)

@@ -1,6 +1,5 @@
 -- What the parts of a walk over units ensure. Assumes nothing.
-use Rattle.std.specs.Prelude.{◌≡◌, Bool, true, false, List, ℕ, ◌+◌, ◌<◌}
-use Rattle.std.proofs.Math.Option.{Option, none}
+use Rattle.std.specs.Prelude.{◌≡◌, Bool, true, false, List, ℕ, ◌+◌, ◌<◌, Option, None}
 use Rattle.layout.specs.Number.{number_at}
 use Rattle.files.specs.Program.{Program, statement_at}
 use Rattle.definition.specs.Act.{Act, done, ◌>>=◌}
@@ -22,9 +21,8 @@ use Rattle.operations.specs.Registers.{counts_in, how_in}
 use Rattle.operations.specs.Going.{Remains}
 use Rattle.operations.specs.Going as going
 use Rattle.statements.specs.declared.terminators.Spot.{Spot}
-use Rattle.statements.specs.declared.terminators.Next.{Next}
-use Rattle.statements.specs.declared.terminators.Next.TheVariants.{Stops, Goes}
-use Rattle.statements.specs.declared.statements.Halt.{Halt}
+use Rattle.std.specs.declared.ops.ControlFlow.{ControlFlow}
+use Rattle.std.specs.declared.ops.ControlFlow.TheVariants.{Continue, Break}
 use Rattle.statements.specs.Endings.{halt_end, place_of, next_end}
 use Rattle.statements.specs.Post.{block_of}
 use Rattle.walk.specs.Spots.{PlacedAt}
@@ -39,12 +37,12 @@ pub record Pays (block : Bool) (w w' : List ℕ) : Type 0 where
   pub counts : counts_in w' ≡ paid_counts block (counts_in w)
 
 -- what comes next is a statement of block n, which is at a place, or none that was entered
-abbrev pub Stays : List ℕ → Place → ℕ → Next → Type 0
-Stays blocks p n (Stops s) = Unit
-Stays blocks p n (Goes s) = s.inside ≡ true → (s.block ≡ n) × (s.statement < number_at blocks p.start 2)
+abbrev pub Stays : List ℕ → Place → ℕ → ControlFlow Stop Spot → Type 0
+Stays blocks p n (Break s) = Unit
+Stays blocks p n (Continue s) = s.inside ≡ true → (s.block ≡ n) × (s.statement < number_at blocks p.start 2)
 
 -- in nodes b, with symbols s and regions r
-pub record Settles (b s r ss blocks : List ℕ) (p : Place) (n k : ℕ) (w₀ o₀ : List ℕ) (q : Next) (w o : List ℕ) : Type 0 where
+pub record Settles (b s r ss blocks : List ℕ) (p : Place) (n k : ℕ) (w₀ o₀ : List ℕ) (q : ControlFlow Stop Spot) (w o : List ℕ) : Type 0 where
   pub goes : (limit : ℕ) → going.Goes (given b s r) (λ x. walk.settle x.env n (block_of b ss blocks p) k) w₀ o₀ (next_end limit q) w o
   pub stays : Stays blocks p n q
 
@@ -52,10 +50,10 @@ pub record Settles (b s r ss blocks : List ℕ) (p : Place) (n k : ℕ) (w₀ o�
 abbrev pub run_act : Program → Env → (nodes ss : List ℕ) → Place → Spot → Act (Option statements.Stop)
 run_act P E nodes ss p s = elim s.inside [
   | true ↦ statements.run_statement P E s.block (statement_at nodes ss (p.first + s.statement))
-  | false ↦ done none
+  | false ↦ done None
 ]
 
-pub record RunsAt (b s r ss : List ℕ) (f : Facts) (p : Place) (i : Spot) (w₀ o₀ : List ℕ) (h : Halt) (w o : List ℕ) : Type 0 where
+pub record RunsAt (b s r ss : List ℕ) (f : Facts) (p : Place) (i : Spot) (w₀ o₀ : List ℕ) (h : Option Stop) (w o : List ℕ) : Type 0 where
   pub goes : (P : Program) → Named f P → (limit : ℕ) → going.Goes (given b s r) (λ x. run_act P x.env b ss p i) w₀ o₀ (halt_end limit h) w o
   pub remains : Kept (halt_end 0 h) (Remains (given b s r) w₀ w)
 
@@ -70,7 +68,7 @@ unit_act P E nodes ss blocks p s = elim s.inside [
   | false ↦ walk.settle E s.block (block_of nodes ss blocks p) 0
 ]
 
-pub record UnitOf (b s r ss blocks : List ℕ) (f : Facts) (p : Place) (i : Spot) (w₀ o₀ : List ℕ) (q : Next) (w o : List ℕ) : Type 0 where
+pub record UnitOf (b s r ss blocks : List ℕ) (f : Facts) (p : Place) (i : Spot) (w₀ o₀ : List ℕ) (q : ControlFlow Stop Spot) (w o : List ℕ) : Type 0 where
   pub goes : (P : Program) → Named f P → (limit : ℕ) → going.Goes (given b s r) (λ x. unit_act P x.env b ss blocks p i) w₀ o₀ (next_end limit q) w o
   pub remains : Kept (next_end 0 q) (Remains (given b s r) w₀ w)
   pub stays : Stays blocks p i.block q
@@ -91,15 +89,15 @@ pub record Going (g : Given) (blocks : List ℕ) (f : Facts) (left : ℕ) (s : S
   pub tables : tables w ≡ tables w₀
 
 -- a walk from a spot goes on as the walk from the next, or stops
-abbrev pub TurnsTo : Given → (statements blocks : List ℕ) → Facts → Spot → List ℕ → List ℕ → Next → List ℕ → List ℕ → Type 0
-TurnsTo g ss blocks f s w₀ o₀ (Stops stop) w o = (P : Program) → Told g.nodes ss blocks f P → (limit : ℕ)
+abbrev pub TurnsTo : Given → (statements blocks : List ℕ) → Facts → Spot → List ℕ → List ℕ → ControlFlow Stop Spot → List ℕ → List ℕ → Type 0
+TurnsTo g ss blocks f s w₀ o₀ (Break stop) w o = (P : Program) → Told g.nodes ss blocks f P → (limit : ℕ)
     → Runs g (λ x. walk_on P x.env limit (counts_in w₀).tally.left (place_of s)) w₀ o₀ (counts_in w₀) (stop_end limit stop) w o (counts_in w)
-TurnsTo g ss blocks f s w₀ o₀ (Goes q) w o = Going g blocks f (counts_in w₀).tally.left q w₀ w × ((P : Program) → Told g.nodes ss blocks f P
+TurnsTo g ss blocks f s w₀ o₀ (Continue q) w o = Going g blocks f (counts_in w₀).tally.left q w₀ w × ((P : Program) → Told g.nodes ss blocks f P
     → (limit : ℕ) (e : Ending statements.Stop) (w' o' : List ℕ) (a' : Counts) → Runs g (λ x. walk_on P x.env limit (counts_in w).tally.left (place_of q)) w o (counts_in w) e w' o' a'
     → Runs g (λ x. walk_on P x.env limit (counts_in w₀).tally.left (place_of s)) w₀ o₀ (counts_in w₀) e w' o' a')
 
 -- g goes as the registers of w₀ say
-pub record Turns (g : Given) (ss blocks : List ℕ) (f : Facts) (s : Spot) (w₀ o₀ : List ℕ) (q : Next) (w o : List ℕ) : Type 0 where
+pub record Turns (g : Given) (ss blocks : List ℕ) (f : Facts) (s : Spot) (w₀ o₀ : List ℕ) (q : ControlFlow Stop Spot) (w o : List ℕ) : Type 0 where
   pub turns : TurnsTo g ss blocks f s w₀ o₀ q w o
 
 pub record WalksFrom (g : Given) (ss blocks : List ℕ) (f : Facts) (w₀ o₀ : List ℕ) (stop : Stop) (w o : List ℕ) : Type 0 where

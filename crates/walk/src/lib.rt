@@ -18,59 +18,50 @@ ghost use Rattle.walk.specs.Post.{Pays, Settles, RunsAt, ahead_of, UnitOf, Turns
 use hosting::{Counts, Facts, How, Stop, Walked};
 use index::blocks::Place;
 use operations::results;
-use statements::statements::Halt;
-use statements::terminators::{Next, Spot};
+use statements::Bodies;
+use statements::terminators::Spot;
+use std::ops::ControlFlow;
 use workspace::registers;
 
 // Before a statement of the block at a place: it is there, or the terminator comes, at no cost.
 fn settle(
-    nodes: &[u8],
-    statements: &[u8],
-    blocks: &[u8],
-    symbols: &[u8],
-    regions: &[u8],
+    bodies: Bodies,
     ws: &mut [u8],
     out: &mut [u8],
     place: Place,
     block: usize,
     k: usize,
-) -> Next
-    requires ready_in { ReadyIn (given nodes.now symbols.now regions.now) ws.old }
-    requires placing { Placing nodes.now statements.now blocks.now place }
-    ensures { Settles nodes.now symbols.now regions.now statements.now blocks.now place block k ws.old out.old result ws.new out.new }
+) -> ControlFlow<Stop, Spot>
+    requires ready_in { ReadyIn (given bodies.reads.nodes.now bodies.reads.symbols.now bodies.reads.regions.now) ws.old }
+    requires placing { Placing bodies.reads.nodes.now bodies.statements.now bodies.blocks.now place }
+    ensures { Settles bodies.entry.reads.nodes.now bodies.entry.reads.symbols.now bodies.entry.reads.regions.now bodies.entry.statements.now bodies.entry.blocks.now place block k ws.old out.old result ws.new out.new }
 {
-    if k < index::blocks::statement_count(blocks, place.start) {
-        return Next::Goes(Spot {
+    if k < index::blocks::statement_count(bodies.blocks, place.start) {
+        return ControlFlow::Continue(Spot {
             block,
             statement: k,
             inside: true,
         });
     }
-    statements::terminators::terminate(nodes, statements, blocks, symbols, regions, ws, out, place)
+    statements::terminators::terminate(bodies, ws, out, place)
 }
 
 // What a unit runs at a spot before the walk settles: the statement there, or nothing where a block is entered.
 fn run_at(
-    nodes: &[u8],
-    statements: &[u8],
-    symbols: &[u8],
-    regions: &[u8],
+    bodies: Bodies,
     ws: &mut [u8],
     out: &mut [u8],
     facts: Facts,
     place: Place,
     spot: Spot,
-) -> Halt
-    requires ready_in { ReadyIn (given nodes.now symbols.now regions.now) ws.old }
-    requires roots_of { (RootsOf nodes.now statements.now) × ((spot.inside ≡ true) → (place.first + spot.statement) * 13 + 13 ≤ length statements.now) }
-    ensures { RunsAt nodes.now symbols.now regions.now statements.now facts place spot ws.old out.old result ws.new out.new }
+) -> Option<Stop>
+    requires ready_in { ReadyIn (given bodies.reads.nodes.now bodies.reads.symbols.now bodies.reads.regions.now) ws.old }
+    requires roots_of { (RootsOf bodies.reads.nodes.now bodies.statements.now) × ((spot.inside ≡ true) → (place.first + spot.statement) * 13 + 13 ≤ length bodies.statements.now) }
+    ensures { RunsAt bodies.entry.reads.nodes.now bodies.entry.reads.symbols.now bodies.entry.reads.regions.now bodies.entry.statements.now facts place spot ws.old out.old result ws.new out.new }
 {
     if spot.inside {
         return statements::statements::statement(
-            nodes,
-            statements,
-            symbols,
-            regions,
+            bodies,
             ws,
             out,
             facts,
@@ -78,7 +69,7 @@ fn run_at(
             place.first + spot.statement,
         );
     }
-    Halt::Not
+    None
 }
 
 // The statement ahead of a spot: the one after it, or the first of a block that is entered.
@@ -95,38 +86,21 @@ fn ahead(spot: Spot) -> usize
 // What one unit buys: the block at a place is entered, or a statement of it run.
 // Both come to the only call of `settle`: with two the compiler makes a function of it, and each unit pays for a call with ten arguments.
 fn unit(
-    nodes: &[u8],
-    statements: &[u8],
-    blocks: &[u8],
-    symbols: &[u8],
-    regions: &[u8],
+    bodies: Bodies,
     ws: &mut [u8],
     out: &mut [u8],
     facts: Facts,
     place: Place,
     spot: Spot,
-) -> Next
-    requires ready_in { ReadyIn (given nodes.now symbols.now regions.now) ws.old }
-    requires placing { (Placing nodes.now statements.now blocks.now place) × ((spot.inside ≡ true) → Here blocks.now place spot.statement) }
-    ensures { UnitOf nodes.now symbols.now regions.now statements.now blocks.now facts place spot ws.old out.old result ws.new out.new }
+) -> ControlFlow<Stop, Spot>
+    requires ready_in { ReadyIn (given bodies.reads.nodes.now bodies.reads.symbols.now bodies.reads.regions.now) ws.old }
+    requires placing { (Placing bodies.reads.nodes.now bodies.statements.now bodies.blocks.now place) × ((spot.inside ≡ true) → Here bodies.blocks.now place spot.statement) }
+    ensures { UnitOf bodies.entry.reads.nodes.now bodies.entry.reads.symbols.now bodies.entry.reads.regions.now bodies.entry.statements.now bodies.entry.blocks.now facts place spot ws.old out.old result ws.new out.new }
 {
-    let halt = run_at(
-        nodes, statements, symbols, regions, ws, out, facts, place, spot,
-    );
+    let halt = run_at(bodies, ws, out, facts, place, spot);
     match halt {
-        Halt::With(stop) => Next::Stops(stop),
-        Halt::Not => settle(
-            nodes,
-            statements,
-            blocks,
-            symbols,
-            regions,
-            ws,
-            out,
-            place,
-            spot.block,
-            ahead(spot),
-        ),
+        Some(stop) => ControlFlow::Break(stop),
+        None => settle(bodies, ws, out, place, spot.block, ahead(spot)),
     }
 }
 
@@ -166,27 +140,21 @@ fn place_of(ws: &[u8], block: usize) -> Place
 
 // One turn of the walk: a unit is spent, and what it buys is done.
 fn turn(
-    nodes: &[u8],
-    statements: &[u8],
-    blocks: &[u8],
-    symbols: &[u8],
-    regions: &[u8],
+    bodies: Bodies,
     ws: &mut [u8],
     out: &mut [u8],
     facts: Facts,
     spot: Spot,
-) -> Next
-    requires ready_in { ReadyIn (given nodes.now symbols.now regions.now) ws.old }
-    requires rooted { Rooted nodes.now statements.now blocks.now (blocks_part (tables ws.old)) facts.blocks }
-    requires placed_at { (PlacedAt blocks.now facts.blocks spot) × (spot.block < facts.blocks) }
+) -> ControlFlow<Stop, Spot>
+    requires ready_in { ReadyIn (given bodies.reads.nodes.now bodies.reads.symbols.now bodies.reads.regions.now) ws.old }
+    requires rooted { Rooted bodies.reads.nodes.now bodies.statements.now bodies.blocks.now (blocks_part (tables ws.old)) facts.blocks }
+    requires placed_at { (PlacedAt bodies.blocks.now facts.blocks spot) × (spot.block < facts.blocks) }
     requires balanced { (Balanced (counts_in ws.old).tally) × (0 < (counts_in ws.old).tally.left) }
-    ensures { Turns (given nodes.now symbols.now regions.now (how_in ws.old)) statements.now blocks.now facts spot ws.old out.old result ws.new out.new }
+    ensures { Turns (given bodies.entry.reads.nodes.now bodies.entry.reads.symbols.now bodies.entry.reads.regions.now (how_in ws.old)) bodies.entry.statements.now bodies.entry.blocks.now facts spot ws.old out.old result ws.new out.new }
 {
     let place = place_of(ws, spot.block);
     pay(ws, !spot.inside);
-    unit(
-        nodes, statements, blocks, symbols, regions, ws, out, facts, place, spot,
-    )
+    unit(bodies, ws, out, facts, place, spot)
 }
 
 // Before block 0, where the walk starts.
@@ -200,21 +168,12 @@ fn entry() -> Spot
     }
 }
 
-// The walk from block 0.
-fn rounds(
-    nodes: &[u8],
-    statements: &[u8],
-    blocks: &[u8],
-    symbols: &[u8],
-    regions: &[u8],
-    ws: &mut [u8],
-    out: &mut [u8],
-    facts: Facts,
-) -> Stop
-    requires ready_in { ReadyIn (given nodes.now symbols.now regions.now) ws.old }
-    requires rooted { Rooted nodes.now statements.now blocks.now (blocks_part (tables ws.old)) facts.blocks }
+// The walk from block 0. (A loop over where the walk is: no range says which block comes next.)
+fn rounds(bodies: Bodies, ws: &mut [u8], out: &mut [u8], facts: Facts) -> Stop
+    requires ready_in { ReadyIn (given bodies.reads.nodes.now bodies.reads.symbols.now bodies.reads.regions.now) ws.old }
+    requires rooted { Rooted bodies.reads.nodes.now bodies.statements.now bodies.blocks.now (blocks_part (tables ws.old)) facts.blocks }
     requires balanced { Balanced (counts_in ws.old).tally }
-    ensures { WalksFrom (given nodes.now symbols.now regions.now (how_in ws.old)) statements.now blocks.now facts ws.old out.old result ws.new out.new }
+    ensures { WalksFrom (given bodies.entry.reads.nodes.now bodies.entry.reads.symbols.now bodies.entry.reads.regions.now (how_in ws.old)) bodies.entry.statements.now bodies.entry.blocks.now facts ws.old out.old result ws.new out.new }
 {
     let mut spot = entry();
     while spot.block < facts.blocks {
@@ -222,14 +181,12 @@ fn rounds(
         if spent {
             return Stop::Steps;
         }
-        let next = turn(
-            nodes, statements, blocks, symbols, regions, ws, out, facts, spot,
-        );
+        let next = turn(bodies, ws, out, facts, spot);
         match next {
-            Next::Stops(stop) => {
+            ControlFlow::Break(stop) => {
                 return stop;
             }
-            Next::Goes(s) => {
+            ControlFlow::Continue(s) => {
                 spot = s;
             }
         }
@@ -239,21 +196,17 @@ fn rounds(
 
 // The routine is walked, if it has a block. The counts are in the registers until the walk ends.
 pub fn walk(
-    nodes: &[u8],
-    statements: &[u8],
-    blocks: &[u8],
-    symbols: &[u8],
-    regions: &[u8],
+    bodies: Bodies,
     ws: &mut [u8],
     out: &mut [u8],
     how: How,
     facts: Facts,
     at: Counts,
 ) -> Walked
-    requires ready { Ready (given nodes.now symbols.now regions.now how) ws.old at }
-    requires rooted { Rooted nodes.now statements.now blocks.now (blocks_part (tables ws.old)) facts.blocks }
+    requires ready { Ready (given bodies.reads.nodes.now bodies.reads.symbols.now bodies.reads.regions.now how) ws.old at }
+    requires rooted { Rooted bodies.reads.nodes.now bodies.statements.now bodies.blocks.now (blocks_part (tables ws.old)) facts.blocks }
     requires balanced { Balanced at.tally }
-    ensures { WalksAll (given nodes.now symbols.now regions.now how) statements.now blocks.now facts at.tally.left ws.old out.old at result ws.new out.new }
+    ensures { WalksAll (given bodies.entry.reads.nodes.now bodies.entry.reads.symbols.now bodies.entry.reads.regions.now how) bodies.entry.statements.now bodies.entry.blocks.now facts at.tally.left ws.old out.old at result ws.new out.new }
 {
     if facts.blocks == 0 {
         return Walked {
@@ -262,7 +215,7 @@ pub fn walk(
         };
     }
     results::enter(ws, how, at);
-    let stop = rounds(nodes, statements, blocks, symbols, regions, ws, out, facts);
+    let stop = rounds(bodies, ws, out, facts);
     Walked {
         stop,
         at: results::counts(ws),

@@ -1,7 +1,7 @@
 -- Parts of a workspace that are zero throughout: nothing is set, stored, noted or declared. Assumes nothing.
 use mathlib.Core.Path.{◌≡◌, refl}
 use mathlib.Core.List.{List, [], ◌∷◌}
-use mathlib.Core.Option.{none}
+use Rattle.std.specs.Prelude.{None}
 use Prim.Native.Nat.{ℕ, zero, suc, ◌*◌, ◌≤◌}
 use native.Mathlib.Omega.{arith}
 use lib.ListN.{length, drop, replicate}
@@ -33,7 +33,7 @@ zeros_number : (s : List ℕ) (i k : ℕ) → Zeros s → number_at s i k ≡ 0
 unfolding number_at
 zeros_number s i k z = zeros_num (part i k s) (all_take (λ b. b ≡ 0) k (drop i s) (all_drop (λ b. b ≡ 0) i s z))
 
-slot_none : (f : List ℕ) (x : ℕ) → Zeros f → slot_at f x ≡ none
+slot_none : (f : List ℕ) (x : ℕ) → Zeros f → slot_at f x ≡ None
 unfolding slot_at
 slot_none f x z = rw (zeros_number f (x * slot_size) 1 z, slot_at)
 
@@ -41,11 +41,11 @@ variables_none : (f : List ℕ) → Zeros f → variables_in f ≡ []
 unfolding variables_in
 variables_none f z = those_none (slot_at f) 0 name_limit (λ x. slot_none f x z)
 
-pending_none : (p : List ℕ) → Zeros p → pending_in p ≡ none
+pending_none : (p : List ℕ) → Zeros p → pending_in p ≡ None
 unfolding pending_in
 pending_none p z = rw (zeros_number p 0 1 z, pending_in)
 
-pub declared_none : (t : List ℕ) (x : ℕ) → Zeros (declared_part t) → declared_at t x ≡ none
+pub declared_none : (t : List ℕ) (x : ℕ) → Zeros (declared_part t) → declared_at t x ≡ None
 unfolding declared_at
 declared_none t x z = no_code (number_at (declared_part t) x 1) (zeros_number (declared_part t) x 1 z)
 
@@ -62,6 +62,6 @@ pub fresh_parts : (w : List ℕ) → workspace_size ≤ length w → Zeros (fram
 unfolding view memory_part
 fresh_parts w room frame note =
     let f : variables_in (frame_part w) ≡ [] = variables_none (frame_part w) frame in
-    let p : pending_in (note_part w) ≡ none = pending_none (note_part w) note in
+    let p : pending_in (note_part w) ≡ None = pending_none (note_part w) note in
     let l : length (memory_part w) ≡ memory_size = length-take-le memory_size w (omega arith) in
     (rw (f, p, entries_none (memory_part w)), record { room = room; sorted = sorted_none (memory_part w) (omega (arith, l)); few = rw p (omega arith) })

@@ -1,18 +1,15 @@
 -- The codes of types: each type that a spelling names has one, from which it is read again. Assumes nothing.
 use mathlib.Core.Path.{◌≡◌, refl, sym, ap, ◌∙◌, subst}
 use mathlib.Core.Bool.{Bool, true, false, not}
-use mathlib.Core.Option.{Option, none, some}
+use Rattle.std.specs.Prelude.{Option, None, Some}
 use Prim.Native.Nat.{ℕ, zero, suc, ◌+◌, ◌*◌, ◌/◌, ◌%◌, ◌≤◌, ◌<◌}
 use native.Mathlib.Omega.{arith}
 use mir.Val.{bool_byte}
 use lib.Dec.{eqb}
 use Rattle.layout.specs.Format.{flag_of, bool_of}
 use Rattle.value.specs.declared.Ty.{Ty}
-use Rattle.spelling.specs.declared.Pointee.{Pointee}
-use Rattle.spelling.specs.declared.Pointee.TheVariants.{Of, NoPointer}
 use Rattle.definition.proofs.Fields.{bool_back}
 use Rattle.workspace.specs.Types.{code_of, type_of_code, code_if, type_if_code, Coded, CodedIf}
-use Rattle.workspace.specs.Post.{pointed_at}
 use Rattle.value.proofs.EncodingLaws.{flag_read, flag_written}
 
 -- ---- a code and its type
@@ -40,24 +37,24 @@ code_back t h =
     let s : (t.bits / 8 * 2 + flag_of t.signed) % 2 ≡ flag_of t.signed = omega (arith, f) in
     λ i. record { bits = b i; signed = ◌∙◌ (ap bool_of s) (bool_back t.signed) i }
 
-pub some_code : (c : ℕ) → (c ≡ 0 → ⊥) → type_if_code c ≡ some (type_of_code c)
+pub some_code : (c : ℕ) → (c ≡ 0 → ⊥) → type_if_code c ≡ Some (type_of_code c)
 unfolding type_if_code
 some_code zero h = absurd (h refl)
 some_code (suc c) h = refl
 
-pub no_code : (c : ℕ) → c ≡ 0 → type_if_code c ≡ none
+pub no_code : (c : ℕ) → c ≡ 0 → type_if_code c ≡ None
 unfolding type_if_code
 no_code c h = ap type_if_code h
 
 pub if_small : (o : Option Ty) → CodedIf o → code_if o < 256
 unfolding code_if
-if_small none h = omega arith
-if_small (some t) h = code_small t h
+if_small None h = omega arith
+if_small (Some t) h = code_small t h
 
 pub if_back : (o : Option Ty) → CodedIf o → type_if_code (code_if o) ≡ o
 unfolding code_if
-if_back none h = no_code 0 refl
-if_back (some t) h = some_code (code_of t) (λ e. omega (arith, e, code_some t h)) ∙ ap some (code_back t h)
+if_back None h = no_code 0 refl
+if_back (Some t) h = some_code (code_of t) (λ e. omega (arith, e, code_some t h)) ∙ ap Some (code_back t h)
 
 -- ---- computed
 
@@ -71,13 +68,13 @@ type_made c = λ i. record { bits = c / 2 * 8; signed = flag_read (c % 2) i }
 
 -- what a pointer points at
 
-pub pointed_coded : (p : Pointee) (t : Ty) → p ≡ Of t → CodedIf (pointed_at p) → Coded t
-pointed_coded p t e h = subst (λ (q : Pointee). CodedIf (pointed_at q)) e h
+pub pointed_coded : (p : Option Ty) (t : Ty) → p ≡ Some t → CodedIf p → Coded t
+pointed_coded p t e h = subst CodedIf e h
 
-pub pointed_code : (p : Pointee) (t : Ty) (c : ℕ) → p ≡ Of t → c ≡ code_of t → c ≡ code_if (pointed_at p)
+pub pointed_code : (p : Option Ty) (t : Ty) (c : ℕ) → p ≡ Some t → c ≡ code_of t → c ≡ code_if p
 unfolding code_if
-pointed_code p t c e k = k ∙ sym (ap (λ (q : Pointee). code_if (pointed_at q)) e)
+pointed_code p t c e k = k ∙ sym (ap code_if e)
 
-pub unpointed_code : (p : Pointee) → p ≡ NoPointer → 0 ≡ code_if (pointed_at p)
+pub unpointed_code : (p : Option Ty) → p ≡ None → 0 ≡ code_if p
 unfolding code_if
-unpointed_code p e = sym (ap (λ (q : Pointee). code_if (pointed_at q)) e)
+unpointed_code p e = sym (ap code_if e)

@@ -1,7 +1,7 @@
 -- The variables copied out one slot after another, as a record's body has them. Assumes nothing.
 use mathlib.Core.Path.{◌≡◌, refl, sym, ap, ap₂, ◌∙◌}
 use mathlib.Core.List.{List, [], ◌∷◌, ◌++◌}
-use mathlib.Core.Option.{Option, none, some}
+use Rattle.std.specs.Prelude.{Option, None, Some}
 use Prim.Native.Nat.{ℕ, zero, suc, ◌+◌, ◌-◌, ◌*◌, ◌≤◌, ◌<◌}
 use native.Mathlib.Nat.{zero-add, add-zero}
 use native.Mathlib.Numerals.{add-one}
@@ -18,9 +18,7 @@ use Rattle.workspace.specs.Parts.{frame_part}
 use Rattle.value.specs.Encoding.{val_bytes, val}
 use Rattle.definition.specs.Record.{variables_body}
 use Rattle.workspace.specs.Variables.{name_limit, slot_at, entry_if, those, variables_in, variable_at, variable_size}
-use Rattle.workspace.specs.declared.variables.Slot.{Slot}
-use Rattle.workspace.specs.declared.variables.Slot.TheVariants.{Set, Unset}
-use Rattle.workspace.specs.Post.{slot_as, PutsVariables}
+use Rattle.workspace.specs.Post.{PutsVariables}
 use Rattle.workspace.proofs.VariableLaws.{those_more}
 use Rattle.workspace.proofs.FrameLaws.{variables_find}
 
@@ -73,38 +71,30 @@ before_within f x h =
 
 -- ---- what a slot says
 
-pub set_is : (o : Option Val) (v : Val) → Set v ≡ slot_as o → o ≡ some v
-set_is none v e = let z : ◌≡◌ {A = ℕ} 0 1 = cc in absurd (omega arith)
-set_is (some u) v e = cc
+module _ (w : List ℕ) (x : ℕ) (r : Option Val) (few : x < name_limit) (read : r ≡ find x (variables_in (frame_part w))) where
+  slot_is : slot_at (frame_part w) x ≡ r
+  slot_is = sym (read ∙ variables_find (frame_part w) x few)
 
-pub unset_is : (o : Option Val) → Unset ≡ slot_as o → o ≡ none
-unset_is none e = refl
-unset_is (some u) e = let z : ◌≡◌ {A = ℕ} 0 1 = cc in absurd (omega arith)
+  set_at : (v : Val) → r ≡ Some v → variable_at (frame_part w) x ≡ (x, v) ∷ []
+  set_at v e = ap (λ (o : Option Val). entry_if x o []) (slot_is ∙ e)
 
-module _ (w : List ℕ) (x : ℕ) (r : Slot) (few : x < name_limit) (read : r ≡ slot_as (find x (variables_in (frame_part w)))) where
-  slot_is : r ≡ slot_as (slot_at (frame_part w) x)
-  slot_is = read ∙ ap slot_as (variables_find (frame_part w) x few)
+  unset_at : r ≡ None → variable_at (frame_part w) x ≡ []
+  unset_at e = ap (λ (o : Option Val). entry_if x o []) (slot_is ∙ e)
 
-  set_at : (v : Val) → r ≡ Set v → variable_at (frame_part w) x ≡ (x, v) ∷ []
-  set_at v e = ap (λ (o : Option Val). entry_if x o []) (set_is (slot_at (frame_part w) x) v (sym e ∙ slot_is))
-
-  unset_at : r ≡ Unset → variable_at (frame_part w) x ≡ []
-  unset_at e = ap (λ (o : Option Val). entry_if x o []) (unset_is (slot_at (frame_part w) x) (sym e ∙ slot_is))
-
-  pub one_set : (v : Val) → r ≡ Set v → 1 ≡ length (variable_at (frame_part w) x)
+  pub one_set : (v : Val) → r ≡ Some v → 1 ≡ length (variable_at (frame_part w) x)
   one_set v e = sym (ap length (set_at v e))
 
-  pub none_set : r ≡ Unset → 0 ≡ length (variable_at (frame_part w) x)
+  pub none_set : r ≡ None → 0 ≡ length (variable_at (frame_part w) x)
   none_set e = sym (ap length (unset_at e))
 
   -- a variable that is set is copied
-  pub put_room : (v : Val) (out : List ℕ) (at : ℕ) → r ≡ Set v → at + length (variable_at (frame_part w) x) * variable_size ≤ length out → at + variable_size ≤ length out
+  pub put_room : (v : Val) (out : List ℕ) (at : ℕ) → r ≡ Some v → at + length (variable_at (frame_part w) x) * variable_size ≤ length out → at + variable_size ≤ length out
   put_room v out at e h = omega (arith, h, ap length (set_at v e))
 
-  pub puts_set : (v : Val) (out out' : List ℕ) (at : ℕ) → r ≡ Set v → out' ≡ sets out at (variables_body ((x, v) ∷ [])) → PutsVariables (variable_at (frame_part w) x) out at out' (at + variable_size)
+  pub puts_set : (v : Val) (out out' : List ℕ) (at : ℕ) → r ≡ Some v → out' ≡ sets out at (variables_body ((x, v) ∷ [])) → PutsVariables (variable_at (frame_part w) x) out at out' (at + variable_size)
   puts_set v out out' at e b = rw (set_at v e) (record { bytes = b; place = omega arith })
 
-  pub puts_unset : (out : List ℕ) (at : ℕ) → r ≡ Unset → PutsVariables (variable_at (frame_part w) x) out at out at
+  pub puts_unset : (out : List ℕ) (at : ℕ) → r ≡ None → PutsVariables (variable_at (frame_part w) x) out at out at
   unfolding variables_body
   puts_unset out at e = rw (unset_at e) (record { bytes = refl; place = omega arith })
 

@@ -2,7 +2,7 @@
 use mathlib.Core.Path.{◌≡◌, sym, ap, ap₂, ◌∙◌}
 use mathlib.Core.Bool.{Bool, true, false}
 use mathlib.Core.List.{List, [], ◌∷◌}
-use mathlib.Core.Option.{Option, none, some}
+use Rattle.std.specs.Prelude.{Option, None, Some}
 use Prim.Native.Nat.{ℕ, suc, ◌+◌, ◌*◌, ◌≤◌, ◌<◌}
 use native.Mathlib.Nat.{add-zero}
 use native.Mathlib.Omega.{arith}
@@ -17,15 +17,13 @@ use Rattle.memory.proofs.OverlayLaws.{below, equal, above, compared}
 use Rattle.workspace.specs.Parts.{part, frame_place, frame_size, frame_part}
 use Rattle.value.specs.Encoding.{val_bytes, val_at, Whole}
 use Rattle.workspace.specs.Variables.{slot_size, name_limit, slot_at, variables_in}
-use Rattle.workspace.specs.declared.variables.Slot.TheVariants.{Set, Unset}
-use Rattle.workspace.specs.Post.{slot_as}
 use Rattle.workspace.proofs.PartLaws.{part_part, part_above, part_below, part_stored, number_same, number_part}
 use Rattle.value.proofs.EncodingLaws.{length_val_bytes}
 use Rattle.workspace.proofs.ValueLaws.{val_same, val_stored}
 use Rattle.workspace.proofs.VariableLaws.{those_find, those_store}
 
 abbrev slot_if : Bool → Val → Option Val
-slot_if b v = elim b [ true ↦ some v | false ↦ none ]
+slot_if b v = elim b [ true ↦ Some v | false ↦ None ]
 
 pub slot_same : (f g : List ℕ) (x : ℕ) → part (x * slot_size) slot_size g ≡ part (x * slot_size) slot_size f → slot_at g x ≡ slot_at f x
 unfolding slot_at
@@ -44,7 +42,7 @@ module _ (f : List ℕ) (x : ℕ) (v : Val) (room : frame_size ≤ length f) (fe
   long : x * slot_size + length (slot_bytes v) ≤ length f
   long = omega (arith, length_val_bytes v)
 
-  slot_set : slot_at (sets f (x * slot_size) (slot_bytes v)) x ≡ some v
+  slot_set : slot_at (sets f (x * slot_size) (slot_bytes v)) x ≡ Some v
   unfolding slot_at number_at
   slot_set =
       let g = sets f (x * slot_size) (slot_bytes v) in
@@ -85,10 +83,10 @@ module _ (w : List ℕ) (x a : ℕ) (few : x < name_limit) (read : a ≡ number_
   unfolding slot_at
   slot_read = ap₂ (λ (n : ℕ) (v : Val). slot_if (bool_of n) v) flag_read val_read
 
-  pub reads_unset : a ≡ 0 → Unset ≡ slot_as (find x (variables_in (frame_part w)))
-  reads_unset z = sym (ap slot_as (variables_find (frame_part w) x few ∙ slot_read ∙ ap (λ (n : ℕ). slot_if (bool_of n) (val_at w (frame_place + (x * slot_size + 1)))) z))
+  pub reads_unset : a ≡ 0 → None ≡ find x (variables_in (frame_part w))
+  reads_unset z = sym (variables_find (frame_part w) x few ∙ slot_read ∙ ap (λ (n : ℕ). slot_if (bool_of n) (val_at w (frame_place + (x * slot_size + 1)))) z)
 
-  pub reads_set : (v : Val) → (a ≡ 0 → ⊥) → v ≡ val_at w (frame_place + x * slot_size + 1) → Set v ≡ slot_as (find x (variables_in (frame_part w)))
+  pub reads_set : (v : Val) → (a ≡ 0 → ⊥) → v ≡ val_at w (frame_place + x * slot_size + 1) → Some v ≡ find x (variables_in (frame_part w))
   reads_set v z e =
       let k : frame_place + (x * slot_size + 1) ≡ frame_place + x * slot_size + 1 = omega arith in
-      sym (ap slot_as (variables_find (frame_part w) x few ∙ slot_read ∙ ap₂ slot_if (flag_set a z) (ap (val_at w) k ∙ sym e)))
+      sym (variables_find (frame_part w) x few ∙ slot_read ∙ ap₂ slot_if (flag_set a z) (ap (val_at w) k ∙ sym e))

@@ -8,8 +8,8 @@ use lib.Seq.{take_at, drop_at, length-take-le}
 use borrow.Rule.Slice.PartMut.{put_mid}
 use Rattle.memory.specs.Overlay.{Cell, stores}
 use Rattle.memory.specs.Entries.{entries}
-use Rattle.memory.specs.declared.Stored.{Stored}
-use Rattle.memory.specs.declared.Stored.TheVariants.{Count, Full}
+use Rattle.std.specs.Prelude.{Result, Ok, Err}
+use Rattle.memory.specs.declared.Full.{Full}
 use Rattle.memory.specs.Post.{StoresAll}
 use Rattle.workspace.specs.Parts.{workspace_size, memory_size, frame_place, frame_size, note_place, note_size, registers_place, registers_size, tables_place, tables_size, questions_place, memory_part, frame_part, note_part, registers_part, tables, questions_part}
 use Rattle.workspace.specs.View.{view, Fit}
@@ -54,9 +54,9 @@ module _ (w s : List ℕ) (room : workspace_size ≤ length w) (size : length s 
   length_back : length back ≡ length w
   length_back = length-append s (drop memory_size w) ∙ ap₂ ◌+◌ size (length-drop memory_size w) ∙ omega arith
 
-  stored_back : (n : ℕ) (address : ℕ) (cells : List Cell) → Fit w n → (r : Stored) → StoresAll (stores address cells (entries (memory_part w) n)) s r → StoresCells w n address cells back r
+  stored_back : (n : ℕ) (address : ℕ) (cells : List Cell) → Fit w n → (r : Result ℕ Full) → StoresAll (stores address cells (entries (memory_part w) n)) s r → StoresCells w n address cells back r
   unfolding view
-  stored_back n address cells fit (Count m) h = record {
+  stored_back n address cells fit (Ok m) h = record {
     holds = rw (frame_back, note_back, memory_back, h.same);
     tables = tables_back;
     fit = record { room = omega (arith, length_back); sorted = rw memory_back h.sorted; few = rw note_back fit.few };
@@ -64,8 +64,8 @@ module _ (w s : List ℕ) (room : workspace_size ≤ length w) (size : length s 
     registers = registers_back;
     questions = questions_back;
   }
-  stored_back n address cells fit Full h = (h, length_back, registers_back)
+  stored_back n address cells fit (Err e) h = (h, length_back, registers_back)
 
-pub stores_cells : (w s : List ℕ) (n address : ℕ) (cells : List Cell) (r : Stored) → Fit w n → length s ≡ length (memory_part w)
+pub stores_cells : (w s : List ℕ) (n address : ℕ) (cells : List Cell) (r : Result ℕ Full) → Fit w n → length s ≡ length (memory_part w)
     → StoresAll (stores address cells (entries (memory_part w) n)) s r → StoresCells w n address cells (put_mid 0 memory_size w s) r
 stores_cells w s n address cells r fit e h = stored_back w s fit.room (e ∙ length_memory w fit.room) n address cells fit r h

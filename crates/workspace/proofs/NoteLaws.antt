@@ -2,7 +2,7 @@
 use mathlib.Core.Path.{◌≡◌, refl, sym, ap, ap₂, ◌∙◌}
 use mathlib.Core.Bool.{Bool, true, false, not}
 use mathlib.Core.List.{List, [], ◌∷◌, ◌++◌}
-use mathlib.Core.Option.{Option, none, some}
+use Rattle.std.specs.Prelude.{Option, None, Some}
 use Prim.Native.Nat.{ℕ, ◌+◌, ◌-◌, ◌*◌, ◌≤◌, ◌<◌}
 use native.Mathlib.Omega.{arith}
 use lib.Dec.{eqb}
@@ -23,7 +23,7 @@ use Rattle.value.proofs.EncodingLaws.{flag_read}
 use Rattle.workspace.proofs.ViewLaws.{Becomes, length_note, note_stored, changes}
 
 abbrev note_if : Bool → List ℕ → Option (List ℕ)
-note_if b l = elim b [ true ↦ some l | false ↦ none ]
+note_if b l = elim b [ true ↦ Some l | false ↦ None ]
 
 -- the names that stand in a note, also where its flag is not set
 abbrev listed : List ℕ → List ℕ
@@ -38,13 +38,13 @@ length_listed p = length_reads (number 2) (num (take 2 (drop 1 p))) (drop 2 (dro
 
 -- ---- what a store in the note does to it
 
-pub pending_cleared : (p : List ℕ) → note_size ≤ length p → pending_in (sets p 0 (0 ∷ [])) ≡ none
+pub pending_cleared : (p : List ℕ) → note_size ≤ length p → pending_in (sets p 0 (0 ∷ [])) ≡ None
 unfolding pending_in number_at
 pending_cleared p h =
     let e : num (part 0 1 (sets p 0 (0 ∷ []))) ≡ 0 = ap num (part_stored 0 0 1 p (0 ∷ []) (omega arith) (omega arith)) in
     ap (λ (n : ℕ). note_if (bool_of n) (listed (sets p 0 (0 ∷ [])))) e
 
-pub pending_started : (p : List ℕ) → note_size ≤ length p → pending_in (sets p 0 (1 ∷ 0 ∷ 0 ∷ [])) ≡ some []
+pub pending_started : (p : List ℕ) → note_size ≤ length p → pending_in (sets p 0 (1 ∷ 0 ∷ 0 ∷ [])) ≡ Some []
 unfolding pending_in number_at
 pending_started p h =
     let q = sets p 0 (1 ∷ 0 ∷ 0 ∷ []) in
@@ -170,18 +170,18 @@ module _ (w : List ℕ) where
 
 -- ---- the note changed in the workspace
 
-pub note_cleared : (w w' : List ℕ) → workspace_size ≤ length w → w' ≡ put_number w note_place 1 0 → Changes w (leaving none) w'
+pub note_cleared : (w w' : List ℕ) → workspace_size ≤ length w → w' ≡ put_number w note_place 1 0 → Changes w (leaving None) w'
 unfolding put_number
 note_cleared w w' room e =
-    rw e (changes w (sets w note_place (0 ∷ [])) (frame_part w) (sets (note_part w) 0 (0 ∷ [])) (leaving none) (note_stored w (0 ∷ []) 0 room (omega arith))
+    rw e (changes w (sets w note_place (0 ∷ [])) (frame_part w) (sets (note_part w) 0 (0 ∷ [])) (leaving None) (note_stored w (0 ∷ []) 0 room (omega arith))
     (λ m. rw (pending_cleared (note_part w) (omega (arith, length_note w room))))
     (λ h. rw (pending_cleared (note_part w) (omega (arith, length_note w room))) (omega arith)))
 
-pub note_started : (w t w' : List ℕ) → workspace_size ≤ length w → t ≡ put_number w note_place 1 1 → w' ≡ put_number t (note_place + 1) 2 0 → Changes w (leaving (some [])) w'
+pub note_started : (w t w' : List ℕ) → workspace_size ≤ length w → t ≡ put_number w note_place 1 1 → w' ≡ put_number t (note_place + 1) 2 0 → Changes w (leaving (Some [])) w'
 unfolding put_number
 note_started w t w' room p q =
     let e : w' ≡ sets w note_place (1 ∷ 0 ∷ 0 ∷ []) = q ∙ ap (λ (l : List ℕ). sets l (note_place + 1) (0 ∷ 0 ∷ [])) p in
-    rw e (changes w (sets w note_place (1 ∷ 0 ∷ 0 ∷ [])) (frame_part w) (sets (note_part w) 0 (1 ∷ 0 ∷ 0 ∷ [])) (leaving (some [])) (note_stored w (1 ∷ 0 ∷ 0 ∷ []) 0 room (omega arith))
+    rw e (changes w (sets w note_place (1 ∷ 0 ∷ 0 ∷ [])) (frame_part w) (sets (note_part w) 0 (1 ∷ 0 ∷ 0 ∷ [])) (leaving (Some [])) (note_stored w (1 ∷ 0 ∷ 0 ∷ []) 0 room (omega arith))
     (λ m. rw (pending_started (note_part w) (omega (arith, length_note w room))))
     (λ h. rw (pending_started (note_part w) (omega (arith, length_note w room))) (omega arith)))
 
@@ -203,8 +203,8 @@ note_twice w vs us i j room h l =
     }
 
 more_few : (x : ℕ) (p : Option (List ℕ)) → Open p → Few (with_name x p)
-more_few x none o = absurd o
-more_few x (some xs) o = rw length-append (omega arith)
+more_few x None o = absurd o
+more_few x (Some xs) o = rw length-append (omega arith)
 
 pub note_added : (w t w' : List ℕ) (n x : ℕ) → workspace_size ≤ length w → x < 65536 → Open (pending_in (note_part w)) → n ≡ number_at w (note_place + 1) 2
     → t ≡ put_number w (note_place + 3 + n * 2) 2 x → w' ≡ put_number t (note_place + 1) 2 (n + 1) → Changes w (noting x) w'

@@ -1,7 +1,7 @@
 -- The tables of a workspace: read, and after a code is put. What changes as a routine runs stands before them. Assumes nothing.
 use mathlib.Core.Path.{◌≡◌, sym, ap, ap₂, ◌∙◌}
 use mathlib.Core.List.{List, [], ◌∷◌}
-use mathlib.Core.Option.{Option, some}
+use Rattle.std.specs.Prelude.{Option, None, Some}
 use Prim.Native.Nat.{ℕ, ◌+◌, ◌*◌, ◌%◌, ◌≤◌, ◌<◌}
 use native.Mathlib.Nat.{zero-add, add-zero}
 use native.Mathlib.Numerals.{add-one}
@@ -11,14 +11,12 @@ use lib.Seq.{sets, length-sets, take-take, length-take-le}
 use Rattle.layout.specs.Number.{le, number_at, put_number}
 use Rattle.layout.proofs.StoreLaws.{take_sets, number_above}
 use Rattle.value.specs.declared.Ty.{Ty}
-use Rattle.spelling.specs.declared.Pointee.TheVariants.{Of, NoPointer}
 use Rattle.memory.proofs.OverlayLaws.{below, equal, above, compared}
 use Rattle.workspace.specs.Parts.{part, workspace_size, memory_size, frame_place, frame_size, note_place, note_size, tables_place, tables_size, memory_part, frame_part, note_part, tables, declared_size, types_place, types_size, symbols_place, symbols_size, regions_place, regions_size, blocks_place, blocks_size, declared_part, types_part, symbols_part, regions_part, blocks_part}
 use Rattle.workspace.specs.Variables.{name_limit}
 use Rattle.workspace.specs.Types.{type_limit, code_of, code_if, type_of_code, type_if_code, declared_at, type_at, pointee_at, Coded, CodedIf}
 use Rattle.workspace.specs.View.{view}
-use Rattle.workspace.specs.declared.types.Declaration.TheVariants.{As, Nothing}
-use Rattle.workspace.specs.Post.{declaration_as, pointee_as, Kept, SameIndexes, Declares, PutsType}
+use Rattle.workspace.specs.Post.{Kept, SameIndexes, Declares, PutsType}
 use Rattle.workspace.proofs.PartLaws.{part_front, part_sets, part_below, take_sets_in, number_part, number_stored, number_below}
 use Rattle.workspace.proofs.CodeLaws.{code_small, code_back, if_small, if_back, some_code, no_code}
 
@@ -51,13 +49,13 @@ module _ (w : List ℕ) where
   unfolding types_part
   types_number d h = number_part (tables w) types_place types_size d 1 (omega arith) ∙ table_number (types_place + d) 1 (omega arith)
 
-  pub reads_undeclared : (x c : ℕ) → x < name_limit → c ≡ number_at w (tables_place + x) 1 → c ≡ 0 → Nothing ≡ declaration_as (declared_at (tables w) x)
+  pub reads_undeclared : (x c : ℕ) → x < name_limit → c ≡ number_at w (tables_place + x) 1 → c ≡ 0 → None ≡ declared_at (tables w) x
   unfolding declared_at
-  reads_undeclared x c h e z = sym (ap declaration_as (no_code (number_at (declared_part (tables w)) x 1) (declared_number x h ∙ sym e ∙ z)))
+  reads_undeclared x c h e z = sym (no_code (number_at (declared_part (tables w)) x 1) (declared_number x h ∙ sym e ∙ z))
 
-  pub reads_declared : (x c : ℕ) (t : Ty) → x < name_limit → c ≡ number_at w (tables_place + x) 1 → (c ≡ 0 → ⊥) → t ≡ type_of_code c → As t ≡ declaration_as (declared_at (tables w) x)
+  pub reads_declared : (x c : ℕ) (t : Ty) → x < name_limit → c ≡ number_at w (tables_place + x) 1 → (c ≡ 0 → ⊥) → t ≡ type_of_code c → Some t ≡ declared_at (tables w) x
   unfolding declared_at
-  reads_declared x c t h e z p = sym (ap declaration_as (ap type_if_code (declared_number x h ∙ sym e) ∙ some_code c z ∙ ap some (sym p)))
+  reads_declared x c t h e z p = sym (ap type_if_code (declared_number x h ∙ sym e) ∙ some_code c z ∙ ap (λ (u : Ty). Some u) (sym p))
 
   pub reads_type : (i c : ℕ) (t : Ty) → i < type_limit → c ≡ number_at w (tables_place + types_place + i * 2) 1 → t ≡ type_of_code c → t ≡ type_at (tables w) i
   unfolding type_at
@@ -70,13 +68,13 @@ module _ (w : List ℕ) where
       let k : tables_place + (types_place + (i * 2 + 1)) ≡ tables_place + types_place + i * 2 + 1 = omega arith in
       types_number (i * 2 + 1) (omega arith) ∙ ap (λ (j : ℕ). number_at w j 1) k ∙ sym e
 
-  pub reads_no_pointer : (i c : ℕ) → i < type_limit → c ≡ number_at w (tables_place + types_place + i * 2 + 1) 1 → c ≡ 0 → NoPointer ≡ pointee_as (pointee_at (tables w) i)
+  pub reads_no_pointer : (i c : ℕ) → i < type_limit → c ≡ number_at w (tables_place + types_place + i * 2 + 1) 1 → c ≡ 0 → None ≡ pointee_at (tables w) i
   unfolding pointee_at
-  reads_no_pointer i c h e z = sym (ap pointee_as (no_code (number_at (types_part (tables w)) (i * 2 + 1) 1) (pointee_number i c h e ∙ z)))
+  reads_no_pointer i c h e z = sym (no_code (number_at (types_part (tables w)) (i * 2 + 1) 1) (pointee_number i c h e ∙ z))
 
-  pub reads_pointee : (i c : ℕ) (t : Ty) → i < type_limit → c ≡ number_at w (tables_place + types_place + i * 2 + 1) 1 → (c ≡ 0 → ⊥) → t ≡ type_of_code c → Of t ≡ pointee_as (pointee_at (tables w) i)
+  pub reads_pointee : (i c : ℕ) (t : Ty) → i < type_limit → c ≡ number_at w (tables_place + types_place + i * 2 + 1) 1 → (c ≡ 0 → ⊥) → t ≡ type_of_code c → Some t ≡ pointee_at (tables w) i
   unfolding pointee_at
-  reads_pointee i c t h e z p = sym (ap pointee_as (ap type_if_code (pointee_number i c h e) ∙ some_code c z ∙ ap some (sym p)))
+  reads_pointee i c t h e z p = sym (ap type_if_code (pointee_number i c h e) ∙ some_code c z ∙ ap Some (sym p))
 
 -- ---- a code put in the tables t
 
@@ -150,7 +148,7 @@ declares w w' x c t room few h p e =
     let small : c < 256 = omega (arith, p, code_small t h) in
     rw e (record {
       kept = tables_kept w (le 1 c) x room;
-      here = ap (λ (z : List ℕ). declared_at z x) b ∙ declared_here (tables w) x c l few small ∙ ap type_if_code p ∙ if_back (some t) h;
+      here = ap (λ (z : List ℕ). declared_at z x) b ∙ declared_here (tables w) x c l few small ∙ ap type_if_code p ∙ if_back (Some t) h;
       others = λ y d. ap (λ (z : List ℕ). declared_at z y) b ∙ declared_else (tables w) x c l few y d;
       types = λ i. ap (λ (z : List ℕ). type_of_code (number_at z (i * 2) 1)) k;
       pointees = λ i. ap (λ (z : List ℕ). type_if_code (number_at z (i * 2 + 1) 1)) k;

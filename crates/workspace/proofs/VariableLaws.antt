@@ -1,7 +1,7 @@
 -- The variables that are set, by their slots: found, set, in order, and one slot after the other. Assumes nothing.
 use mathlib.Core.Path.{◌≡◌, refl, sym, ap, ap₂, ◌∙◌}
 use mathlib.Core.List.{[], ◌∷◌, ◌++◌}
-use mathlib.Core.Option.{Option, none, some}
+use Rattle.std.specs.Prelude.{Option, None, Some}
 use Prim.Native.Nat.{ℕ, zero, suc, ◌+◌, ◌≤◌, ◌<◌}
 use native.Mathlib.Nat.{add-suc, suc-add, add-zero}
 use native.Mathlib.Omega.{arith}
@@ -18,12 +18,12 @@ module _ {A : Type 0} where
   those_above slot y x (suc n) h = go (slot x) (those_above slot y (suc x) n (omega arith))
     where
       go : (o : Option A) → Each (λ q. y < q.0) (those slot (suc x) n) → Each (λ q. y < q.0) (entry_if x o (those slot (suc x) n))
-      go none all = all
-      go (some a) all = (h, all)
+      go None all = all
+      go (Some a) all = (h, all)
 
   -- ---- found
 
-  find_less : (y : ℕ) (m : Overlay A) → Each (λ q. y < q.0) m → find y m ≡ none
+  find_less : (y : ℕ) (m : Overlay A) → Each (λ q. y < q.0) m → find y m ≡ None
   unfolding find
   find_less y [] h = refl
   find_less y (p ∷ m) h = elim (first y p m) [ less k r f s ↦ f | same k r f s ↦ absurd (omega arith) | more k r f s ↦ absurd (omega arith) ]
@@ -34,13 +34,13 @@ module _ {A : Type 0} where
   those_find slot y x (suc n) h l = go (slot x) refl (λ k. those_find slot y (suc x) n k (omega arith))
     where
       go : (o : Option A) → slot x ≡ o → (x < y → find y (those slot (suc x) n) ≡ slot y) → find y (entry_if x o (those slot (suc x) n)) ≡ slot y
-      go none e later =
+      go None e later =
           elim (compared y x) [
             | below k z ↦ absurd (omega arith)
             | equal k z ↦ find_less y (those slot (suc x) n) (those_above slot y (suc x) n (omega arith)) ∙ sym e ∙ ap slot (sym k)
             | above k z ↦ later k
           ]
-      go (some a) e later =
+      go (Some a) e later =
           elim (first y (x, a) (those slot (suc x) n)) [ less k r f s ↦ absurd (omega arith) | same k r f s ↦ f ∙ sym e ∙ ap slot (sym k) | more k r f s ↦ f ∙ later k ]
 
   -- ---- set
@@ -50,7 +50,7 @@ module _ {A : Type 0} where
   store_less y b [] h = refl
   store_less y b (p ∷ m) h = elim (first y p m) [ less k r f s ↦ s b | same k r f s ↦ absurd (omega arith) | more k r f s ↦ absurd (omega arith) ]
 
-  module _ (slot slot' : ℕ → Option A) (y : ℕ) (b : A) (here : slot' y ≡ some b) (others : (z : ℕ) → (z ≡ y → ⊥) → slot' z ≡ slot z) where
+  module _ (slot slot' : ℕ → Option A) (y : ℕ) (b : A) (here : slot' y ≡ Some b) (others : (z : ℕ) → (z ≡ y → ⊥) → slot' z ≡ slot z) where
     those_after : (x n : ℕ) → y < x → those slot' x n ≡ those slot x n
     unfolding those
     those_after x zero h = refl
@@ -67,16 +67,16 @@ module _ {A : Type 0} where
         ]
       where
         at : y ≡ x → (o : Option A) → (y, b) ∷ those slot (suc x) n ≡ store y b (entry_if x o (those slot (suc x) n))
-        at k none = sym (store_less y b (those slot (suc x) n) (those_above slot y (suc x) n (omega arith)))
-        at k (some a) = elim (first y (x, a) (those slot (suc x) n)) [ less q r f s ↦ absurd (omega arith) | same q r f s ↦ sym (s b) | more q r f s ↦ absurd (omega arith) ]
+        at k None = sym (store_less y b (those slot (suc x) n) (those_above slot y (suc x) n (omega arith)))
+        at k (Some a) = elim (first y (x, a) (those slot (suc x) n)) [ less q r f s ↦ absurd (omega arith) | same q r f s ↦ sym (s b) | more q r f s ↦ absurd (omega arith) ]
 
         past : x < y → (o : Option A) → entry_if x o (store y b (those slot (suc x) n)) ≡ store y b (entry_if x o (those slot (suc x) n))
-        past k none = refl
-        past k (some a) = elim (first y (x, a) (those slot (suc x) n)) [ less q r f s ↦ absurd (omega arith) | same q r f s ↦ absurd (omega arith) | more q r f s ↦ sym (s b) ]
+        past k None = refl
+        past k (Some a) = elim (first y (x, a) (those slot (suc x) n)) [ less q r f s ↦ absurd (omega arith) | same q r f s ↦ absurd (omega arith) | more q r f s ↦ sym (s b) ]
 
   -- ---- all unset, or one more
 
-  pub those_none : (slot : ℕ → Option A) (x n : ℕ) → ((z : ℕ) → slot z ≡ none) → those slot x n ≡ []
+  pub those_none : (slot : ℕ → Option A) (x n : ℕ) → ((z : ℕ) → slot z ≡ None) → those slot x n ≡ []
   unfolding those
   those_none slot x zero e = refl
   those_none slot x (suc n) e = ap₂ (entry_if x) (e x) (those_none slot (suc x) n e)
@@ -90,5 +90,5 @@ module _ {A : Type 0} where
       ∙ ap (λ (z : ℕ). entry_if x (slot x) (those slot (suc x) n) ++ entry_if z (slot z) []) (suc-add x n ∙ sym (add-suc x n))
     where
       go : (o : Option A) (l m : Overlay A) → entry_if x o (l ++ m) ≡ entry_if x o l ++ m
-      go none l m = refl
-      go (some a) l m = refl
+      go None l m = refl
+      go (Some a) l m = refl

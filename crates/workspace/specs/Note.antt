@@ -1,7 +1,6 @@
 -- The pending note, which a call that is not followed leaves: a flag, then the names taken as a step of a record has them, "count u16 of taken names,
 -- each u16". Assumes nothing.
-use Rattle.std.specs.Prelude.{Bool, true, false, List, [], ◌∷◌, ◌++◌, ℕ, ◌≤◌, ◌<◌, length, drop}
-use Rattle.std.proofs.Math.Option.{Option, none, some}
+use Rattle.std.specs.Prelude.{Bool, true, false, List, [], ◌∷◌, ◌++◌, ℕ, ◌≤◌, ◌<◌, length, drop, Option, None, Some}
 use Rattle.layout.specs.Number.{number_at}
 use Rattle.layout.specs.Format.{Format, number, counted, bool_of}
 
@@ -17,21 +16,21 @@ names_bytes xs = names.write xs
 
 -- the note of its part
 unfoldable pub pending_in : List ℕ → Option (List ℕ)
-pending_in p = elim (bool_of (number_at p 0 1)) [ true ↦ some (names.read (drop 1 p)).0 | false ↦ none ]
+pending_in p = elim (bool_of (number_at p 0 1)) [ true ↦ Some (names.read (drop 1 p)).0 | false ↦ None ]
 
 -- whether there is a note, and the names that it has
 abbrev pub noted : Option (List ℕ) → Bool
-noted none = false
-noted (some xs) = true
+noted None = false
+noted (Some xs) = true
 
 abbrev pub taken : Option (List ℕ) → List ℕ
-taken none = []
-taken (some xs) = xs
+taken None = []
+taken (Some xs) = xs
 
 -- one name more, at the end
 abbrev pub with_name : ℕ → Option (List ℕ) → Option (List ℕ)
-with_name x none = none
-with_name x (some xs) = some (xs ++ (x ∷ []))
+with_name x None = None
+with_name x (Some xs) = Some (xs ++ (x ∷ []))
 
 -- no more names than there is room for
 abbrev pub Few : Option (List ℕ) → Type 0
@@ -39,5 +38,5 @@ Few p = length (taken p) ≤ taken_limit
 
 -- a note to which a name can be added
 abbrev pub Open : Option (List ℕ) → Type 0
-Open none = ⊥
-Open (some xs) = length xs < taken_limit
+Open None = ⊥
+Open (Some xs) = length xs < taken_limit

@@ -1,19 +1,11 @@
 -- What the functions on a workspace give and ensure. Assumes nothing.
-use Rattle.std.specs.Prelude.{◌≡◌, List, ℕ, ◌+◌, ◌*◌, ◌<◌, length}
-use Rattle.std.proofs.Math.Option.{Option, none, some}
+use Rattle.std.specs.Prelude.{◌≡◌, List, ℕ, ◌+◌, ◌*◌, ◌<◌, length, Option, None, Some, Result, Ok, Err}
 use Rattle.std.proofs.lemmas.List.Edits.{sets}
 use Rattle.value.specs.declared.Val.{Val}
 use Rattle.value.specs.declared.Ty.{Ty}
-use Rattle.spelling.specs.declared.Pointee.{Pointee}
-use Rattle.spelling.specs.declared.Pointee.TheVariants.{Of, NoPointer}
 use Rattle.memory.specs.Overlay.{Overlay, Cell, stores}
 use Rattle.memory.specs.Entries.{limit}
-use Rattle.memory.specs.declared.Stored.{Stored}
-use Rattle.memory.specs.declared.Stored.TheVariants.{Count, Full}
-use Rattle.workspace.specs.declared.variables.Slot.{Slot}
-use Rattle.workspace.specs.declared.variables.Slot.TheVariants.{Set, Unset}
-use Rattle.workspace.specs.declared.types.Declaration.{Declaration}
-use Rattle.workspace.specs.declared.types.Declaration.TheVariants.{As, Nothing}
+use Rattle.memory.specs.declared.Full.{Full}
 use Rattle.workspace.specs.Parts.{registers_part, tables, symbols_part, regions_part, blocks_part, questions_part}
 use Rattle.definition.specs.Record.{variables_body}
 use Rattle.workspace.specs.Variables.{variable_size}
@@ -21,31 +13,15 @@ use Rattle.workspace.specs.Types.{declared_at, type_at, pointee_at}
 use Rattle.workspace.specs.Registers.{word_count, word_at, value_at}
 use Rattle.workspace.specs.View.{view, Fit, Does, storing}
 
-abbrev pub slot_as : Option Val → Slot
-slot_as none = Unset
-slot_as (some v) = Set v
-
-abbrev pub declaration_as : Option Ty → Declaration
-declaration_as none = Nothing
-declaration_as (some t) = As t
-
-abbrev pub pointee_as : Option Ty → Pointee
-pointee_as none = NoPointer
-pointee_as (some t) = Of t
-
-abbrev pub pointed_at : Pointee → Option Ty
-pointed_at NoPointer = none
-pointed_at (Of t) = some t
-
 -- variables put in a record's bytes at a place of out, which became out', and the next place
 pub record PutsVariables (m : Overlay Val) (out : List ℕ) (at : ℕ) (out' : List ℕ) (next : ℕ) : Type 0 where
   pub bytes : out' ≡ sets out at (variables_body m)
   pub place : next ≡ at + length m * variable_size
 
 -- cells stored from an address on; or they would be too many entries, and of the workspace only its size and the registers are known
-abbrev pub StoresCells : List ℕ → ℕ → ℕ → List Cell → List ℕ → Stored → Type 0
-StoresCells w n address cells w' (Count n') = Does w n (storing address cells) w' n'
-StoresCells w n address cells w' Full = (limit < length (stores address cells (view w n).memory)) × (length w' ≡ length w) × (registers_part w' ≡ registers_part w)
+abbrev pub StoresCells : List ℕ → ℕ → ℕ → List Cell → List ℕ → Result ℕ Full → Type 0
+StoresCells w n address cells w' (Ok n') = Does w n (storing address cells) w' n'
+StoresCells w n address cells w' (Err e) = (limit < length (stores address cells (view w n).memory)) × (length w' ≡ length w) × (registers_part w' ≡ registers_part w)
 
 -- ---- the tables
 
@@ -70,7 +46,7 @@ pub record SameTypes (t t' : List ℕ) : Type 0 where
 -- the name x is declared with a type, and nothing else is changed
 pub record Declares (w : List ℕ) (x : ℕ) (type : Ty) (w' : List ℕ) : Type 0 where
   pub kept : Kept w w'
-  pub here : declared_at (tables w') x ≡ some type
+  pub here : declared_at (tables w') x ≡ Some type
   pub others : (y : ℕ) → (y ≡ x → ⊥) → declared_at (tables w') y ≡ declared_at (tables w) y
   pub types : (i : ℕ) → type_at (tables w') i ≡ type_at (tables w) i
   pub pointees : (i : ℕ) → pointee_at (tables w') i ≡ pointee_at (tables w) i

@@ -1,7 +1,6 @@
 -- The types that names are declared with and that the routine's type table spells, each as a code of one byte: 0 for none, else the width in bytes
 -- twice, and 1 for a sign. Assumes nothing.
-use Rattle.std.specs.Prelude.{◌≡◌, List, ℕ, zero, suc, ◌+◌, ◌*◌, ◌/◌, ◌%◌, ◌<◌, ◌≤◌}
-use Rattle.std.proofs.Math.Option.{Option, none, some}
+use Rattle.std.specs.Prelude.{◌≡◌, List, ℕ, zero, suc, ◌+◌, ◌*◌, ◌/◌, ◌%◌, ◌<◌, ◌≤◌, Option, None, Some}
 use Rattle.layout.specs.Number.{number_at}
 use Rattle.layout.specs.Format.{flag_of, bool_of}
 use Rattle.value.specs.declared.Ty.{Ty}
@@ -19,12 +18,12 @@ unfoldable pub type_of_code : ℕ → Ty
 type_of_code c = type (c / 2 * 8) (bool_of (c % 2))
 
 unfoldable pub code_if : Option Ty → ℕ
-code_if none = 0
-code_if (some t) = code_of t
+code_if None = 0
+code_if (Some t) = code_of t
 
 unfoldable pub type_if_code : ℕ → Option Ty
-type_if_code zero = none
-type_if_code (suc c) = some (type_of_code (suc c))
+type_if_code zero = None
+type_if_code (suc c) = Some (type_of_code (suc c))
 
 -- a type that has a code: whole bytes, at most 64 bits
 pub record Coded (t : Ty) : Type 0 where
@@ -33,8 +32,8 @@ pub record Coded (t : Ty) : Type 0 where
   pub most : t.bits ≤ 64
 
 abbrev pub CodedIf : Option Ty → Type 0
-CodedIf none = Unit
-CodedIf (some t) = Coded t
+CodedIf None = Unit
+CodedIf (Some t) = Coded t
 
 -- in the tables t of a workspace: the type that the name x is declared with, the type i, and what it points at, if it is a pointer
 unfoldable pub declared_at : List ℕ → ℕ → Option Ty

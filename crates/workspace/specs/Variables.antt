@@ -1,7 +1,6 @@
 -- The frame: a slot of 16 bytes for each name. The first byte tells whether the variable is set, the next 14 are its value, the last is unused.
 -- Assumes nothing.
-use Rattle.std.specs.Prelude.{true, false, List, [], ◌∷◌, ℕ, zero, suc, ◌+◌, ◌*◌}
-use Rattle.std.proofs.Math.Option.{Option, none, some}
+use Rattle.std.specs.Prelude.{true, false, List, [], ◌∷◌, ℕ, zero, suc, ◌+◌, ◌*◌, Option, None, Some}
 use Rattle.layout.specs.Number.{number_at}
 use Rattle.layout.specs.Format.{bool_of}
 use Rattle.value.specs.declared.Val.{Val}
@@ -17,12 +16,12 @@ name_limit = 512
 
 -- the value of the variable x, if it is set
 unfoldable pub slot_at : List ℕ → ℕ → Option Val
-slot_at f x = elim (bool_of (number_at f (x * slot_size) 1)) [ true ↦ some (val_at f (x * slot_size + 1)) | false ↦ none ]
+slot_at f x = elim (bool_of (number_at f (x * slot_size) 1)) [ true ↦ Some (val_at f (x * slot_size + 1)) | false ↦ None ]
 
 -- one entry, or none
 abbrev pub entry_if : {A : Type 0} → ℕ → Option A → Overlay A → Overlay A
-entry_if x none m = m
-entry_if x (some a) m = (x, a) ∷ m
+entry_if x None m = m
+entry_if x (Some a) m = (x, a) ∷ m
 
 -- the entries of those of n names from x on that have something
 unfoldable pub those : {A : Type 0} → (ℕ → Option A) → ℕ → ℕ → Overlay A

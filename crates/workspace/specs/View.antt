@@ -1,6 +1,5 @@
 -- What the bytes of a workspace stand for while a routine runs, and what it means that a function did something to that. Assumes nothing.
-use Rattle.std.specs.Prelude.{◌≡◌, List, [], ℕ, ◌≤◌, length}
-use Rattle.std.proofs.Math.Option.{Option, none}
+use Rattle.std.specs.Prelude.{◌≡◌, List, [], ℕ, ◌≤◌, length, Option, None}
 use Rattle.value.specs.declared.Val.{Val}
 use Rattle.memory.specs.Overlay.{Overlay, Cell, store, stores}
 use Rattle.memory.specs.Entries.{Sorted, entries}
@@ -20,7 +19,7 @@ view w stored = record { variables = variables_in (frame_part w); memory = entri
 
 -- nothing is set or stored, and there is no note
 abbrev pub fresh : View
-fresh = record { variables = []; memory = []; pending = none }
+fresh = record { variables = []; memory = []; pending = None }
 
 -- the workspace is large enough, and what it holds is in order
 pub record Fit (w : List ℕ) (stored : ℕ) : Type 0 where

@@ -7,7 +7,6 @@ ghost use Rattle.std.specs.Prelude.{◌≡◌, ◌++◌, ◌*◌, ◌≤◌, len
 ghost use Rattle.layout.specs.Number.{le};
 ghost use Rattle.memory.specs.Overlay.{load};
 ghost use Rattle.memory.specs.Entries.{entry_size, memory_body};
-ghost use Rattle.memory.specs.Post.{loaded_as};
 ghost use Rattle.workspace.specs.View.{view, Fit};
 ghost use Rattle.workspace.specs.Post.{StoresCells};
 
@@ -50,7 +49,7 @@ pub fn store_number(
     address: u64,
     number: u64,
     bytes: usize,
-) -> memory::Stored
+) -> Result<usize, memory::Full>
     requires { Fit ws.old stored }
     ensures { StoresCells ws.old stored address (le bytes number) ws.new result }
 {
@@ -64,10 +63,10 @@ pub fn load_number(
     image: memory::Image,
     address: u64,
     bytes: usize,
-) -> memory::Loaded
+) -> Option<u64>
     requires fit { Fit ws.now stored }
     requires bytes_bound { bytes ≤ 8 }
-    ensures { result ≡ loaded_as (load (view ws.now stored).memory (le image.count image.number) address bytes) }
+    ensures { result ≡ load (view ws.now stored).memory (le image.count image.number) address bytes }
 {
     memory::load_number(&ws[0..FRAME], stored, image, address, bytes)
 }

@@ -1,6 +1,5 @@
 // The pending note: a flag, then the names taken, as a record's step has them.
-ghost use Rattle.std.specs.Prelude.{◌≡◌, true, [], ◌≤◌, ◌<◌, length};
-ghost use Rattle.std.proofs.Math.Option.{none, some};
+ghost use Rattle.std.specs.Prelude.{◌≡◌, true, [], ◌≤◌, ◌<◌, length, None, Some};
 ghost use Rattle.workspace.specs.Parts.{workspace_size, note_part};
 ghost use Rattle.workspace.specs.Note.{pending_in, noted, taken, names_bytes, Few, Open};
 ghost use Rattle.workspace.specs.View.{Changes, leaving, noting};
@@ -17,23 +16,23 @@ pub fn has_note(ws: &[u8]) -> bool
     requires { workspace_size ≤ length ws.now }
     ensures { result ≡ noted (pending_in (note_part ws.now)) }
 {
-    layout::get8(ws, NOTE) != 0
+    layout::get::<1>(ws, NOTE) != 0
 }
 
 pub fn clear_note(ws: &mut [u8])
     requires { workspace_size ≤ length ws.old }
-    ensures { Changes ws.old (leaving none) ws.new }
+    ensures { Changes ws.old (leaving None) ws.new }
 {
-    layout::put8(ws, NOTE, 0);
+    layout::put::<1>(ws, NOTE, 0);
 }
 
 // A note without names.
 pub fn start_note(ws: &mut [u8])
     requires { workspace_size ≤ length ws.old }
-    ensures { Changes ws.old (leaving (some [])) ws.new }
+    ensures { Changes ws.old (leaving (Some [])) ws.new }
 {
-    layout::put8(ws, NOTE, 1);
-    layout::put16(ws, COUNT, 0);
+    layout::put::<1>(ws, NOTE, 1);
+    layout::put::<2>(ws, COUNT, 0);
 }
 
 // One name more, after those that the note has.
@@ -41,10 +40,10 @@ pub fn add_name(ws: &mut [u8], x: usize)
     requires { (workspace_size ≤ length ws.old) × (x < 65536) × Open (pending_in (note_part ws.old)) }
     ensures { Changes ws.old (noting x) ws.new }
 {
-    let count = layout::get16(ws, COUNT);
+    let count = layout::get::<2>(ws, COUNT);
     let at = NAMES + count as usize * 2;
-    layout::put16(ws, at, x as u64);
-    layout::put16(ws, COUNT, count + 1);
+    layout::put::<2>(ws, at, x as u64);
+    layout::put::<2>(ws, COUNT, count + 1);
 }
 
 // How many names the note has.
@@ -52,10 +51,10 @@ pub fn name_count(ws: &[u8]) -> usize
     requires { workspace_size ≤ length ws.now }
     ensures { result ≡ length (taken (pending_in (note_part ws.now))) }
 {
-    if layout::get8(ws, NOTE) == 0 {
+    if layout::get::<1>(ws, NOTE) == 0 {
         return 0;
     }
-    layout::get16(ws, COUNT) as usize
+    layout::get::<2>(ws, COUNT) as usize
 }
 
 // The names of a note in the bytes that a record has of them.

@@ -15,14 +15,14 @@ pub fn word(ws: &[u8], k: usize) -> u64
     requires { (workspace_size ≤ length ws.now) × (k < word_count) }
     ensures { result ≡ word_at (registers_part ws.now) k }
 {
-    layout::get64(ws, REGISTERS + k * 8)
+    layout::get::<8>(ws, REGISTERS + k * 8)
 }
 
 pub fn set_word(ws: &mut [u8], k: usize, x: u64)
     requires { (workspace_size ≤ length ws.old) × (k < word_count) }
     ensures { SetsWord ws.old k x ws.new }
 {
-    layout::put64(ws, REGISTERS + k * 8, x);
+    layout::put::<8>(ws, REGISTERS + k * 8, x);
 }
 
 pub fn value(ws: &[u8], k: usize) -> Val

@@ -3,18 +3,10 @@ ghost use Rattle.std.specs.Prelude.{◌≡◌, ◌<◌, ◌≤◌, length};
 ghost use Rattle.workspace.specs.Parts.{workspace_size, tables};
 ghost use Rattle.workspace.specs.Variables.{name_limit};
 ghost use Rattle.workspace.specs.Types.{type_limit, code_of, code_if, type_of_code, declared_at, type_at, pointee_at, Coded, CodedIf};
-ghost use Rattle.workspace.specs.Post.{declaration_as, pointee_as, pointed_at, Declares, PutsType};
+ghost use Rattle.workspace.specs.Post.{Declares, PutsType};
 
 use super::{DECLARED, TYPES};
-use spelling::Pointee;
 use value::Ty;
-
-// What a name is declared with.
-#[derive(Clone, Copy)]
-pub enum Declaration {
-    As(Ty),
-    Nothing,
-}
 
 // The code of a type, and the type of a code.
 fn code(ty: Ty) -> u64
@@ -28,32 +20,29 @@ fn decoded(code: u64) -> Ty
     requires { code < 256 }
     ensures { result ≡ type_of_code code }
 {
-    Ty {
-        bits: (code / 2 * 8) as u32,
-        signed: code % 2 != 0,
-    }
+    Ty::new((code / 2 * 8) as u32, code % 2 != 0)
 }
 
-fn pointee_code(pointee: Pointee) -> u64
-    requires { CodedIf (pointed_at pointee) }
-    ensures { result ≡ code_if (pointed_at pointee) }
+fn pointee_code(pointee: Option<Ty>) -> u64
+    requires { CodedIf pointee }
+    ensures { result ≡ code_if pointee }
 {
     match pointee {
-        Pointee::Of(ty) => code(ty),
-        Pointee::NoPointer => 0,
+        Some(ty) => code(ty),
+        None => 0,
     }
 }
 
-// The type that a name is declared with.
-pub fn declared(ws: &[u8], x: usize) -> Declaration
+// The type that a name is declared with, if it is declared.
+pub fn declared(ws: &[u8], x: usize) -> Option<Ty>
     requires { (workspace_size ≤ length ws.now) × (x < name_limit) }
-    ensures { result ≡ declaration_as (declared_at (tables ws.now) x) }
+    ensures { result ≡ declared_at (tables ws.now) x }
 {
-    let code = layout::get8(ws, DECLARED + x);
+    let code = layout::get::<1>(ws, DECLARED + x);
     if code == 0 {
-        return Declaration::Nothing;
+        return None;
     }
-    Declaration::As(decoded(code))
+    Some(decoded(code))
 }
 
 // A type of the type table.
@@ -61,33 +50,33 @@ pub fn type_of(ws: &[u8], i: usize) -> Ty
     requires { (workspace_size ≤ length ws.now) × (i < type_limit) }
     ensures { result ≡ type_at (tables ws.now) i }
 {
-    decoded(layout::get8(ws, TYPES + i * 2))
+    decoded(layout::get::<1>(ws, TYPES + i * 2))
 }
 
 // What it points at.
-pub fn pointee(ws: &[u8], i: usize) -> Pointee
+pub fn pointee(ws: &[u8], i: usize) -> Option<Ty>
     requires { (workspace_size ≤ length ws.now) × (i < type_limit) }
-    ensures { result ≡ pointee_as (pointee_at (tables ws.now) i) }
+    ensures { result ≡ pointee_at (tables ws.now) i }
 {
-    let code = layout::get8(ws, TYPES + i * 2 + 1);
+    let code = layout::get::<1>(ws, TYPES + i * 2 + 1);
     if code == 0 {
-        return Pointee::NoPointer;
+        return None;
     }
-    Pointee::Of(decoded(code))
+    Some(decoded(code))
 }
 
 pub fn declare(ws: &mut [u8], x: usize, ty: Ty)
     requires { (workspace_size ≤ length ws.old) × (x < name_limit) × Coded ty }
     ensures { Declares ws.old x ty ws.new }
 {
-    layout::put8(ws, DECLARED + x, code(ty));
+    layout::put::<1>(ws, DECLARED + x, code(ty));
 }
 
-pub fn put_type(ws: &mut [u8], i: usize, ty: Ty, pointee: Pointee)
-    requires { (workspace_size ≤ length ws.old) × (i < type_limit) × Coded ty × CodedIf (pointed_at pointee) }
-    ensures { PutsType ws.old i ty (pointed_at pointee) ws.new }
+pub fn put_type(ws: &mut [u8], i: usize, ty: Ty, pointee: Option<Ty>)
+    requires { (workspace_size ≤ length ws.old) × (i < type_limit) × Coded ty × CodedIf pointee }
+    ensures { PutsType ws.old i ty pointee ws.new }
 {
     let at = TYPES + i * 2;
-    layout::put8(ws, at, code(ty));
-    layout::put8(ws, at + 1, pointee_code(pointee));
+    layout::put::<1>(ws, at, code(ty));
+    layout::put::<1>(ws, at + 1, pointee_code(pointee));
 }

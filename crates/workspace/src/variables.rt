@@ -6,7 +6,7 @@ ghost use Rattle.workspace.specs.Parts.{workspace_size, frame_part};
 ghost use Rattle.definition.specs.Record.{variables_body};
 ghost use Rattle.workspace.specs.Variables.{name_limit, variables_in, variable_at, variable_size};
 ghost use Rattle.workspace.specs.View.{Changes, setting};
-ghost use Rattle.workspace.specs.Post.{slot_as, PutsVariables};
+ghost use Rattle.workspace.specs.Post.{PutsVariables};
 
 use super::FRAME;
 use value::Val;
@@ -21,22 +21,16 @@ const SLOT: usize = 16;
 // The bytes of a variable in a record: its name and the value.
 const VARIABLE: usize = 16;
 
-#[derive(Clone, Copy)]
-pub enum Slot {
-    Set(Val),
-    Unset,
-}
-
-// The variable of a name.
-pub fn variable(ws: &[u8], x: usize) -> Slot
+// The variable of a name, if it is set.
+pub fn variable(ws: &[u8], x: usize) -> Option<Val>
     requires { (workspace_size ≤ length ws.now) × (x < name_limit) }
-    ensures { result ≡ slot_as (find x (variables_in (frame_part ws.now))) }
+    ensures { result ≡ find x (variables_in (frame_part ws.now)) }
 {
     let at = FRAME + x * SLOT;
-    if layout::get8(ws, at) == 0 {
-        return Slot::Unset;
+    if layout::get::<1>(ws, at) == 0 {
+        return None;
     }
-    Slot::Set(get_val(ws, at + 1))
+    Some(get_val(ws, at + 1))
 }
 
 pub fn set_variable(ws: &mut [u8], x: usize, v: Val)
@@ -44,7 +38,7 @@ pub fn set_variable(ws: &mut [u8], x: usize, v: Val)
     ensures { Changes ws.old (setting x v) ws.new }
 {
     let at = FRAME + x * SLOT;
-    layout::put8(ws, at, 1);
+    layout::put::<1>(ws, at, 1);
     put_val(ws, at + 1, v);
 }
 
@@ -53,10 +47,9 @@ fn one_if_set(ws: &[u8], x: usize) -> usize
     requires { (workspace_size ≤ length ws.now) × (x < name_limit) }
     ensures { (result ≡ length (variable_at (frame_part ws.now) x)) × (result ≤ 1) }
 {
-    let slot = variable(ws, x);
-    match slot {
-        Slot::Set(_) => 1,
-        Slot::Unset => 0,
+    match variable(ws, x) {
+        Some(_) => 1,
+        None => 0,
     }
 }
 
@@ -66,10 +59,8 @@ pub fn variable_count(ws: &[u8]) -> usize
     ensures { result ≡ length (variables_in (frame_part ws.now)) }
 {
     let mut count = 0;
-    let mut x = 0;
-    while x < NAME_LIMIT {
+    for x in 0..NAME_LIMIT {
         count += one_if_set(ws, x);
-        x += 1;
     }
     count
 }
@@ -79,7 +70,7 @@ fn put_variable(out: &mut [u8], at: usize, x: usize, v: Val)
     requires { at + variable_size ≤ length out.old }
     ensures { out.new ≡ sets out.old at (variables_body ((x, v) ∷ [])) }
 {
-    layout::put16(out, at, x as u64);
+    layout::put::<2>(out, at, x as u64);
     put_val(out, at + 2, v);
 }
 
@@ -88,13 +79,12 @@ fn copy_variable(ws: &[u8], x: usize, out: &mut [u8], at: usize) -> usize
     requires { (workspace_size ≤ length ws.now) × (x < name_limit) × (at + length (variable_at (frame_part ws.now) x) * variable_size ≤ length out.old) }
     ensures { PutsVariables (variable_at (frame_part ws.now) x) out.old at out.new result }
 {
-    let slot = variable(ws, x);
-    match slot {
-        Slot::Set(v) => {
+    match variable(ws, x) {
+        Some(v) => {
             put_variable(out, at, x, v);
             at + VARIABLE
         }
-        Slot::Unset => at,
+        None => at,
     }
 }
 
@@ -104,9 +94,7 @@ pub fn copy_variables(ws: &[u8], out: &mut [u8])
     ensures { out.new ≡ variables_body (variables_in (frame_part ws.now)) ++ drop (length (variables_in (frame_part ws.now)) * variable_size) out.old }
 {
     let mut at = 0;
-    let mut x = 0;
-    while x < NAME_LIMIT {
+    for x in 0..NAME_LIMIT {
         at = copy_variable(ws, x, out, at);
-        x += 1;
     }
 }

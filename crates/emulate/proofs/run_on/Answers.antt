@@ -1,15 +1,16 @@
+use native.Mathlib.Omega.{arith}
 use Rattle.emulate.proofs.Answering.{answers_22, is_exact, short_enough, answers_whole}
 use borrow.Author.Rules.{rules}
 use Rattle.emulate.proofs.run_on.Goals as goal
 
 pub returns-then-not-fits : goal.returns-then-not-fits
-returns-then-not-fits c = search (rules, answers_22)
+returns-then-not-fits c = search (rules, answers_22, c.args.files.accepted)
 
-pub put_rest-requires : goal.put_rest-requires
-put_rest-requires c = record { files_accepted = search rules; workspace_long = search rules; tabled = search rules; ended = search rules; exact = search (rules, is_exact) }
+pub put_rest-requires-clause-exact : goal.put_rest-requires-clause-exact
+put_rest-requires-clause-exact c = search (rules, is_exact, c.args.files.accepted)
 
 pub end_of-requires : goal.end_of-requires
-end_of-requires c = search (rules, short_enough)
+end_of-requires c = search (rules, short_enough, c.args.files.accepted)
 
 pub returns : goal.returns
-returns c = search (rules, answers_whole)
+returns c = answers_whole _ _ _ _ _ c.args.files.accepted c.requires.workspace_long _ _ _ c.requires.ended _ c.measure-l.ensures _ c.fits.ensures (search rules) _ _ _ _ (omega arith) c.put_rest.ensures (c.fill.ensures.after (λ y e. e)) c.end_of.ensures

@@ -1,15 +1,18 @@
-use borrow.Author.Rules.{rules}
-use Rattle.files.proofs.RefusalLaws.{run_routine_refused, world_refused, call_refused, run_accepted}
+use mathlib.Core.Path.{◌∙◌}
+use Rattle.files.specs.Refusal.{refusal}
+use Rattle.files.proofs.RefusalLaws.{exits, checked, or_refusal}
 use Rattle.files.proofs.check.Goals as goal
 
-pub returns-then-r-ne0 : goal.returns-then-r-ne0
-returns-then-r-ne0 c = search (rules, run_routine_refused)
+pub returns-in_err-check_routine : goal.returns-in_err-check_routine
+unfolding refusal
+returns-in_err-check_routine c = exits _ _ c.from_residual.ensures.1 ∙ rw (← c.in_err-check_routine.ensures) (or_refusal _ _)
 
-pub returns-then-not-check_world : goal.returns-then-not-check_world
-returns-then-not-check_world c = search (rules, world_refused)
-
-pub returns-then-not-check_call : goal.returns-then-not-check_call
-returns-then-not-check_call c = search (rules, call_refused)
+pub returns-in_err-unless : goal.returns-in_err-unless
+unfolding refusal
+returns-in_err-unless c =
+    exits _ _ c.from_residual-in_err-unless.ensures.1
+    ∙ simp (← c.in_ok-check_routine.ensures, ← c.check_world.ensures, c.in_err-unless.ensures.0, c.in_err-unless.ensures.1)
 
 pub returns : goal.returns
-returns c = search (rules, run_accepted)
+unfolding refusal
+returns c = checked _ _ _ c.unless-2.ensures ∙ simp (← c.in_ok-check_routine.ensures, ← c.check_world.ensures, c.in_ok-unless.ensures, ← c.check_call.ensures)

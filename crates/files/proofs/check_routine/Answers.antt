@@ -1,28 +1,33 @@
-use borrow.Author.Rules.{rules}
-use Rattle.files.proofs.TableLaws.{checked_body}
-use Rattle.files.proofs.RefusalLaws.{table_refused, bodies_refused}
+use mathlib.Core.Path.{◌∙◌, sym}
+use native.Mathlib.Omega.{arith}
+use Rattle.files.specs.Refusal.{routine_refusal}
+use Rattle.files.proofs.TableLaws.{has_body}
+use Rattle.files.proofs.RefusalLaws.{exits}
 use Rattle.files.proofs.check_routine.Goals as goal
 
-pub returns-then-not-check : goal.returns-then-not-check
-returns-then-not-check c = search (rules, table_refused)
+pub returns-in_err-unless : goal.returns-in_err-unless
+unfolding routine_refusal
+returns-in_err-unless c = exits _ _ c.from_residual.ensures.1 ∙ simp (← c.check.ensures, c.in_err-unless.ensures.0, c.in_err-unless.ensures.1)
 
 pub body-names-requires : goal.body-names-requires
-body-names-requires c = search (rules, checked_body)
+body-names-requires c = has_body 6 _ (sym c.check.ensures ∙ c.in_ok-unless.ensures) 0 (omega arith)
 
 pub body-types-requires : goal.body-types-requires
-body-types-requires c = search (rules, checked_body)
+body-types-requires c = has_body 6 _ (sym c.check.ensures ∙ c.in_ok-unless.ensures) 1 (omega arith)
 
 pub body-head-requires : goal.body-head-requires
-body-head-requires c = search (rules, checked_body)
+body-head-requires c = has_body 6 _ (sym c.check.ensures ∙ c.in_ok-unless.ensures) 2 (omega arith)
 
 pub body-nodes-requires : goal.body-nodes-requires
-body-nodes-requires c = search (rules, checked_body)
+body-nodes-requires c = has_body 6 _ (sym c.check.ensures ∙ c.in_ok-unless.ensures) 3 (omega arith)
 
 pub body-statements-requires : goal.body-statements-requires
-body-statements-requires c = search (rules, checked_body)
+body-statements-requires c = has_body 6 _ (sym c.check.ensures ∙ c.in_ok-unless.ensures) 4 (omega arith)
 
 pub body-blocks-requires : goal.body-blocks-requires
-body-blocks-requires c = search (rules, checked_body)
+body-blocks-requires c = has_body 6 _ (sym c.check.ensures ∙ c.in_ok-unless.ensures) 5 (omega arith)
 
 pub returns : goal.returns
-returns c = search (rules, bodies_refused)
+unfolding routine_refusal
+returns c =
+    c.check_bodies.ensures ∙ simp (← c.check.ensures, c.in_ok-unless.ensures, c.body-names.ensures, c.body-types.ensures, c.body-head.ensures, c.body-nodes.ensures, c.body-statements.ensures, c.body-blocks.ensures)

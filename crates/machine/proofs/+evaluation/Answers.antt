@@ -19,7 +19,7 @@ use native.Mathlib.Omega.{arith}
 use Rattle.std.proofs.Common.{not}
 use Rattle.machine.proofs.Evaluating.{Valued}
 use Rattle.machine.proofs.+evaluation.Goals as goal
-use Rattle.machine.proofs.+evaluation.Goals.{binary-in-Set, binary-in-Unset+else-not-evaluate}
+use Rattle.machine.proofs.+evaluation.Goals.{binary-in-Some, binary-in-None+else-not-evaluate}
 
 pub args-loop-i-init : goal.args-loop-i-init
 args-loop-i-init t c = search (rules, args_start)
@@ -167,15 +167,15 @@ binary-next-right-requires t c = search (rules, room, binary_left)
 pub binary-overflow_add-i : goal.binary-overflow_add-i
 binary-overflow_add-i t c = search (rules, room)
 
-pub binary-loop-left-init : goal.binary-loop-left-init
-binary-loop-left-init t c = search (rules, binary_start)
+pub binary-loop-round-init : goal.binary-loop-round-init
+binary-loop-round-init t c = search (rules, binary_start)
 
 pub binary-at_hand-hand-requires : goal.binary-at_hand-hand-requires
 binary-at_hand-hand-requires t c = search (rules, binary_fine)
 
 pub binary-evaluate-requires : goal.binary-evaluate-requires
-binary-evaluate-requires t c = let l = c.loop-left.invariant.0 in
-    (binary_falls l c.loop-left-test.true c.decreases, ((l.ready, c.requires.ready_by.1), binary_fine l c.loop-left-test.true))
+binary-evaluate-requires t c = let l = c.loop-round.invariant.0 in
+    (binary_falls l c.loop-round-test.true c.decreases, ((l.ready, c.requires.ready_by.1), binary_fine l c.loop-round-test.true))
 
 pub binary-returns-then-not-evaluate : goal.binary-returns-then-not-evaluate
 binary-returns-then-not-evaluate t c = search (rules, binary_stopped)
@@ -183,18 +183,18 @@ binary-returns-then-not-evaluate t c = search (rules, binary_stopped)
 pub binary-value-r-requires : goal.binary-value-r-requires
 binary-value-r-requires t c = search (rules, ready_on, binary_fine)
 
-pub binary-loop-left-preserved : goal.binary-loop-left-preserved
-binary-loop-left-preserved t c =
-    let l = c.loop-left.invariant in
+pub binary-loop-round-preserved : goal.binary-loop-round-preserved
+binary-loop-round-preserved t c =
+    let l = c.loop-round.invariant in
     let x = c.args in
-    let valued : Valued x.nodes.now.now x.symbols.now.now x.regions.now.now c.loop-left.i c.loop-left.ws c.loop-left.out c.match-hand.r c.match-hand.ws c.match-hand.out =
+    let valued : Valued x.reads.now.nodes.now x.reads.now.symbols.now x.reads.now.regions.now c.loop-round.i c.loop-round.ws c.loop-round.out c.match-hand.r c.match-hand.ws c.match-hand.out =
     elim c.match-hand.branch [
-      | binary-in-Set w ↦ operand_at_hand c.at_hand-hand.ensures w.in-Set.is w.r-is w.ws-is w.out-is
-      | binary-in-Unset+else-not-evaluate w ↦
+      | binary-in-Some w ↦ operand_at_hand c.at_hand-hand.ensures w.in-Some.is w.r-is w.ws-is w.out-is
+      | binary-in-None+else-not-evaluate w ↦
           operand_evaluated w.evaluate.ensures.0 (ap not w.if-not-evaluate.false) w.value-r.ensures w.r-is w.ws-is w.out-is
     ]
     in
-    (binary_next l.0 c.loop-left-test.true c.next-right.ensures valued, omega arith, omega arith)
+    (binary_next l.0 c.loop-round-test.true c.next-right.ensures valued, omega arith, omega arith)
 
 pub binary-operate-requires : goal.binary-operate-requires
 binary-operate-requires t c = search (rules, room)
@@ -211,17 +211,17 @@ call-next-first-requires t c = search (rules, room, call_callee)
 pub call-next-end-requires : goal.call-next-end-requires
 call-next-end-requires t c = search (rules, room)
 
-pub call-args-a-requires : goal.call-args-a-requires
-call-args-a-requires t c = (search (rules, second_falls), (search rules, (search (rules, call_args), search rules)))
+pub call-args-requires : goal.call-args-requires
+call-args-requires t c = (search (rules, second_falls), (search rules, (search (rules, call_args), search rules)))
 
-pub call-returns-then-not-a : goal.call-returns-then-not-a
-call-returns-then-not-a t c = call_short c.requires.of_kind c.next-first.ensures c.next-end.ensures c.args-a.ensures (not-true _ c.if-not-a.true)
+pub call-returns-in_default : goal.call-returns-in_default
+call-returns-in_default t c = call_short c.requires.of_kind c.next-first.ensures c.next-end.ensures c.args-2.ensures c.in_default.is
 
 pub call-called-requires : goal.call-called-requires
-call-called-requires t c = record { workspace_long = (args_ready c.args-a.ensures (not-false _ c.if-not-a.false) (call_args c.requires.of_kind c.requires.fine c.next-first.ensures c.next-end.ensures) c.requires.ready_by.0).ready.fit.room; fine = c.requires.fine; of_kind = c.requires.of_kind; count_bound = omega (arith, c.args-a.ensures.few); vals_len = search rules }
+call-called-requires t c = record { workspace_long = (args_ready c.args-2.ensures c.in-Some.is (call_args c.requires.of_kind c.requires.fine c.next-first.ensures c.next-end.ensures) c.requires.ready_by.0).ready.fit.room; fine = c.requires.fine; of_kind = c.requires.of_kind; count_bound = omega (arith, (c.args-2.ensures.filled _ c.in-Some.is).1); vals_len = search rules }
 
 pub call-returns : goal.call-returns
-call-returns t c = call_evals c.requires.of_kind c.next-first.ensures c.next-end.ensures c.args-a.ensures (not-false _ c.if-not-a.false) c.called.ensures
+call-returns t c = call_evals c.requires.of_kind c.next-first.ensures c.next-end.ensures c.args-2.ensures c.in-Some.is c.called.ensures
 
 pub cast-overflow_add-n : goal.cast-overflow_add-n
 cast-overflow_add-n t c = search (rules, room)
@@ -391,11 +391,11 @@ kids-evaluate-requires t c = search (rules, here_falls, kid_here)
 pub kids-returns-then-not-evaluate : goal.kids-returns-then-not-evaluate
 kids-returns-then-not-evaluate t c = search (rules, kids_stopped)
 
-pub kids-loop-i-smaller-in-Set : goal.kids-loop-i-smaller-in-Set
-kids-loop-i-smaller-in-Set t c = search (rules, kids_less)
+pub kids-loop-i-smaller-in-Some : goal.kids-loop-i-smaller-in-Some
+kids-loop-i-smaller-in-Some t c = search (rules, kids_less)
 
-pub kids-loop-i-preserved-in-Set : goal.kids-loop-i-preserved-in-Set
-kids-loop-i-preserved-in-Set t c = search (rules, kids_skipped)
+pub kids-loop-i-preserved-in-Some : goal.kids-loop-i-preserved-in-Some
+kids-loop-i-preserved-in-Some t c = search (rules, kids_skipped)
 
 pub kids-loop-i-smaller : goal.kids-loop-i-smaller
 kids-loop-i-smaller t c = search (rules, kids_less)
@@ -409,8 +409,8 @@ kids-returns t c = search (rules, kids_done)
 pub operand-evaluate-requires : goal.operand-evaluate-requires
 operand-evaluate-requires t c = search (rules, operand_falls)
 
-pub operand-returns-in-Set : goal.operand-returns-in-Set
-operand-returns-in-Set t c = search (rules, at_hand_evals)
+pub operand-returns-in-Some : goal.operand-returns-in-Some
+operand-returns-in-Some t c = search (rules, at_hand_evals)
 
 pub returned-next-end-requires : goal.returned-next-end-requires
 returned-next-end-requires t c = search (rules, room)
@@ -491,8 +491,8 @@ store_struct-returns t c = known_stores c.value-v.ensures (not-false _ c.if-not-
 pub ternary-overflow_add-i : goal.ternary-overflow_add-i
 ternary-overflow_add-i t c = search (rules, room)
 
-pub ternary-loop-left-init : goal.ternary-loop-left-init
-ternary-loop-left-init t c = search (rules, ternary_start)
+pub ternary-loop-round-init : goal.ternary-loop-round-init
+ternary-loop-round-init t c = search (rules, ternary_start)
 
 pub ternary-evaluate-requires : goal.ternary-evaluate-requires
 ternary-evaluate-requires t c = search (rules, ternary_falls, ternary_fine)
@@ -501,10 +501,10 @@ pub ternary-returns-then-not-evaluate : goal.ternary-returns-then-not-evaluate
 ternary-returns-then-not-evaluate t c = search (rules, ternary_stopped)
 
 pub ternary-next-i-requires : goal.ternary-next-i-requires
-ternary-next-i-requires t c = room (ternary_fine c.loop-left.invariant.0 c.loop-left-test.true)
+ternary-next-i-requires t c = room (ternary_fine c.loop-round.invariant.0 c.loop-round-test.true)
 
-pub ternary-loop-left-preserved : goal.ternary-loop-left-preserved
-ternary-loop-left-preserved t c = search (rules, ternary_next)
+pub ternary-loop-round-preserved : goal.ternary-loop-round-preserved
+ternary-loop-round-preserved t c = search (rules, ternary_next)
 
 pub ternary-returns : goal.ternary-returns
 ternary-returns t c = search (rules, ternary_done)

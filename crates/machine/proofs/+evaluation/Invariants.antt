@@ -10,82 +10,76 @@ use mathlib.Core.Path.{◌≡◌}
 use Rattle.machine.proofs.+evaluation.Given as goal
 
 abbrev pub decreases-args : goal.decreases-args
-decreases-args l = left l.nodes.now.now l.n 4
+decreases-args l = left l.reads.now.nodes.now l.n 4
 
 abbrev pub decreases-assign : goal.decreases-assign
-decreases-assign l = left l.nodes.now.now l.n 0
+decreases-assign l = left l.reads.now.nodes.now l.n 0
 
 abbrev pub decreases-assign_struct : goal.decreases-assign_struct
-decreases-assign_struct l = left l.nodes.now.now l.left 0
+decreases-assign_struct l = left l.reads.now.nodes.now l.left 0
 
 abbrev pub decreases-assign_val : goal.decreases-assign_val
-decreases-assign_val l = left l.nodes.now.now l.left 0
+decreases-assign_val l = left l.reads.now.nodes.now l.left 0
 
 abbrev pub decreases-assigned : goal.decreases-assigned
-decreases-assigned l = left l.nodes.now.now l.n 2
+decreases-assigned l = left l.reads.now.nodes.now l.n 2
 
 abbrev pub decreases-binary : goal.decreases-binary
-decreases-binary l = left l.nodes.now.now l.n 0
+decreases-binary l = left l.reads.now.nodes.now l.n 0
 
 abbrev pub decreases-call : goal.decreases-call
-decreases-call l = left l.nodes.now.now l.n 0
+decreases-call l = left l.reads.now.nodes.now l.n 0
 
 abbrev pub decreases-cast : goal.decreases-cast
-decreases-cast l = left l.nodes.now.now l.n 0
+decreases-cast l = left l.reads.now.nodes.now l.n 0
 
 abbrev pub decreases-deref : goal.decreases-deref
-decreases-deref l = left l.nodes.now.now l.n 0
+decreases-deref l = left l.reads.now.nodes.now l.n 0
 
 abbrev pub decreases-evaluate : goal.decreases-evaluate
-decreases-evaluate l = left l.nodes.now.now l.n 3
+decreases-evaluate l = left l.reads.now.nodes.now l.n 3
 
 abbrev pub decreases-intrinsic : goal.decreases-intrinsic
-decreases-intrinsic l = left l.nodes.now.now l.n 0
+decreases-intrinsic l = left l.reads.now.nodes.now l.n 0
 
 abbrev pub decreases-kids : goal.decreases-kids
-decreases-kids l = left l.nodes.now.now l.n 4
+decreases-kids l = left l.reads.now.nodes.now l.n 4
 
 abbrev pub decreases-operand : goal.decreases-operand
-decreases-operand l = left l.nodes.now.now l.n 4
+decreases-operand l = left l.reads.now.nodes.now l.n 4
 
 abbrev pub decreases-returned : goal.decreases-returned
-decreases-returned l = left l.nodes.now.now l.n 0
+decreases-returned l = left l.reads.now.nodes.now l.n 0
 
 abbrev pub decreases-store_fields : goal.decreases-store_fields
-decreases-store_fields l = left l.nodes.now.now l.n 0
+decreases-store_fields l = left l.reads.now.nodes.now l.n 0
 
 abbrev pub decreases-store_struct : goal.decreases-store_struct
-decreases-store_struct l = left l.nodes.now.now l.right 0
+decreases-store_struct l = left l.reads.now.nodes.now l.right 0
 
 abbrev pub decreases-ternary : goal.decreases-ternary
-decreases-ternary l = left l.nodes.now.now l.n 0
+decreases-ternary l = left l.reads.now.nodes.now l.n 0
 
 abbrev pub invariant-args-loop-i : goal.invariant-args-loop-i
-invariant-args-loop-i l = ArgsSoFar l.nodes.now l.symbols.now l.regions.now l.n l.end l.initial.ws l.initial.out l.initial.vals l.i l.j l.ws l.out l.vals × (length l.ws ≡ length l.initial.ws) × (length l.out ≡ length l.initial.out) × (length l.vals ≡ length l.initial.vals)
+invariant-args-loop-i l = ArgsSoFar l.reads.nodes.now l.reads.symbols.now l.reads.regions.now l.n l.end l.initial.ws l.initial.out l.initial.vals l.i l.j l.ws l.out l.vals × (length l.ws ≡ length l.initial.ws) × (length l.out ≡ length l.initial.out) × (length l.vals ≡ length l.initial.vals)
 
 abbrev pub decreases-args-loop-i : goal.decreases-args-loop-i
 decreases-args-loop-i l = l.end - l.i
 
-abbrev pub invariant-binary-loop-left : goal.invariant-binary-loop-left
-invariant-binary-loop-left l = BinarySoFar l.nodes.now l.symbols.now l.regions.now l.n l.initial.ws l.initial.out l.left l.i l.l l.r l.ws l.out × (length l.ws ≡ length l.initial.ws) × (length l.out ≡ length l.initial.out)
-
-abbrev pub decreases-binary-loop-left : goal.decreases-binary-loop-left
-decreases-binary-loop-left l = l.left
+abbrev pub invariant-binary-loop-round : goal.invariant-binary-loop-round
+invariant-binary-loop-round l = BinarySoFar l.reads.nodes.now l.reads.symbols.now l.reads.regions.now l.n l.initial.ws l.initial.out l._round l.i l.l l.r l.ws l.out × (length l.ws ≡ length l.initial.ws) × (length l.out ≡ length l.initial.out)
 
 abbrev pub invariant-kids-loop-i : goal.invariant-kids-loop-i
-invariant-kids-loop-i l = KidsSoFar l.nodes.now l.symbols.now l.regions.now l.n l.end l.initial.ws l.initial.out l.i l.ws l.out × (length l.ws ≡ length l.initial.ws) × (length l.out ≡ length l.initial.out)
+invariant-kids-loop-i l = KidsSoFar l.reads.nodes.now l.reads.symbols.now l.reads.regions.now l.n l.end l.initial.ws l.initial.out l.i l.ws l.out × (length l.ws ≡ length l.initial.ws) × (length l.out ≡ length l.initial.out)
 
 abbrev pub decreases-kids-loop-i : goal.decreases-kids-loop-i
 decreases-kids-loop-i l = l.end - l.i
 
 abbrev pub invariant-store_fields-loop-i : goal.invariant-store_fields-loop-i
-invariant-store_fields-loop-i l = FieldsSoFar l.nodes.now l.symbols.now l.regions.now l.n l.end l.address l.initial.ws l.initial.out l.i l.ws l.out × (length l.ws ≡ length l.initial.ws) × (length l.out ≡ length l.initial.out)
+invariant-store_fields-loop-i l = FieldsSoFar l.reads.nodes.now l.reads.symbols.now l.reads.regions.now l.n l.end l.address l.initial.ws l.initial.out l.i l.ws l.out × (length l.ws ≡ length l.initial.ws) × (length l.out ≡ length l.initial.out)
 
 abbrev pub decreases-store_fields-loop-i : goal.decreases-store_fields-loop-i
 decreases-store_fields-loop-i l = l.end - l.i
 
-abbrev pub invariant-ternary-loop-left : goal.invariant-ternary-loop-left
-invariant-ternary-loop-left l = TernarySoFar l.nodes.now l.symbols.now l.regions.now l.n l.initial.ws l.initial.out l.left l.i l.condition l.then l.ws l.out × (length l.ws ≡ length l.initial.ws) × (length l.out ≡ length l.initial.out)
-
-abbrev pub decreases-ternary-loop-left : goal.decreases-ternary-loop-left
-decreases-ternary-loop-left l = l.left
+abbrev pub invariant-ternary-loop-round : goal.invariant-ternary-loop-round
+invariant-ternary-loop-round l = TernarySoFar l.reads.nodes.now l.reads.symbols.now l.reads.regions.now l.n l.initial.ws l.initial.out l._round l.i l.condition l.then l.ws l.out × (length l.ws ≡ length l.initial.ws) × (length l.out ≡ length l.initial.out)

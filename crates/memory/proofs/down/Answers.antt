@@ -1,15 +1,19 @@
-use Rattle.memory.proofs.MoveLaws.{down_by}
-use Rattle.std.proofs.Common.{rules}
+use Rattle.memory.specs.Entries.{entry_size}
+use Rattle.memory.proofs.MoveLaws.{lowered, lowered_more}
+use Rattle.std.proofs.Common.{◌≡◌, ℕ, ◌+◌, ◌*◌, List, get_or, set, refl, ap, ◌∙◌, arith, length-set}
 use Rattle.memory.proofs.down.Goals as goal
 
-pub returns-then-by-eq-ENTRY : goal.returns-then-by-eq-ENTRY
-returns-then-by-eq-ENTRY c = search (rules, down_by)
+pub loop-k-init : goal.loop-k-init
+loop-k-init g c = (refl, refl)
 
-pub returns-then-by : goal.returns-then-by
-returns-then-by c = search (rules, down_by)
+pub loop-k-preserved : goal.loop-k-preserved
+loop-k-preserved g c = let l = c.loop-k in
+    let by = g.row.PLACES * entry_size in (
+      ap (λ (t : List ℕ). set t l.k (get_or t (l.k + by) 0)) l.invariant.0 ∙ lowered_more c.args.part.now by l.k (omega arith),
+      length-set l.part l.k (get_or l.part (l.k + by) 0) ∙ l.invariant.1,
+    )
 
-pub returns-then-by-2 : goal.returns-then-by-2
-returns-then-by-2 c = search (rules, down_by)
-
-pub returns-then-by-3 : goal.returns-then-by-3
-returns-then-by-3 c = search (rules, down_by)
+pub returns : goal.returns
+returns g c =
+    let e : c.loop-k.k ≡ c.args.n = omega arith in
+    c.loop-k.invariant.0 ∙ ap (lowered c.args.part.now (g.row.PLACES * entry_size)) e

@@ -7,17 +7,16 @@ pub loop-k-init : goal.loop-k-init
 loop-k-init c = let x = c.args in
     let a : x.i + 0 ≡ x.i = omega arith in
     let b : x.bytes - 0 ≡ x.bytes = omega arith in
-    (omega arith, rw (a, b), refl)
+    (rw (a, b), refl)
 
 pub loop-k-preserved : goal.loop-k-preserved
 loop-k-preserved c = let l = c.loop-k in
     let x = c.args in (
-      omega arith,
-      over_turn l.part x.i l.k x.bytes l.left c.loop-k-test.true ∙ l.invariant.1,
-      length-set l.part ((x.i + l.k) * entry_size + 8) (l.left % 256) ∙ l.invariant.2,
+      over_turn l.part x.i l.k x.bytes l.left c.loop-k-test.true ∙ l.invariant.0,
+      length-set l.part ((x.i + l.k) * entry_size + 8) (l.left % 256) ∙ l.invariant.1,
     )
 
 pub returns : goal.returns
 returns c = let l = c.loop-k in
     let x = c.args in
-    over_none l.part (x.i + l.k) (x.bytes - l.k) l.left (omega arith) ∙ l.invariant.1
+    over_none l.part (x.i + l.k) (x.bytes - l.k) l.left (omega arith) ∙ l.invariant.0

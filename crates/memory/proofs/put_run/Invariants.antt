@@ -2,15 +2,11 @@ use Rattle.memory.specs.Overlay.{run_of}
 use Rattle.memory.specs.Entries.{entry, entry_size}
 use Rattle.layout.specs.Number.{le}
 use Rattle.layout.specs.Format.{writes}
-use Rattle.std.proofs.Common.{◌≡◌, ◌+◌, ◌-◌, ◌*◌, ◌≤◌, length}
+use Rattle.std.proofs.Common.{◌≡◌, ◌+◌, ◌-◌, ◌*◌, length}
 use lib.Seq.{sets}
 use Rattle.memory.proofs.put_run.Given as goal
 
 -- what is still to be written makes the part what it shall be
 abbrev pub invariant-loop-k : goal.invariant-loop-k
-invariant-loop-k l = (l.k ≤ l.bytes)
-    × (sets l.part ((l.i + l.k) * entry_size) (writes entry (run_of (l.address + l.k) (le (l.bytes - l.k) l.left))) ≡ sets l.initial.part (l.i * entry_size) (writes entry (run_of l.address (le l.bytes l.number))))
+invariant-loop-k l = (sets l.part ((l.i + l.k) * entry_size) (writes entry (run_of (l.run.address + l.k) (le (l.run.bytes - l.k) l.left))) ≡ sets l.initial.part (l.i * entry_size) (writes entry (run_of l.run.address (le l.run.bytes l.run.number))))
     × (length l.part ≡ length l.initial.part)
-
-abbrev pub decreases-loop-k : goal.decreases-loop-k
-decreases-loop-k l = l.bytes - l.k

@@ -1,11 +1,11 @@
 use native.Mathlib.Omega.{arith}
 use Rattle.passes.proofs.Buffer.{length_part}
-use Rattle.passes.proofs.Streams.{files_ok, first_passed}
+use Rattle.passes.proofs.Streams.{first_passed}
 use borrow.Author.Rules.{rules}
 use Rattle.passes.proofs.first_pass.Goals as goal
 
 pub pass-requires : goal.pass-requires
-pass-requires c = record { files_accepted = files_ok _ _ _ c.requires.files_accepted; workspace_long = (search rules, omega (arith, length_part c.args.buffer.now c.steps_start-start.result (omega arith))); tabled = search rules }
+pass-requires c = record { workspace_long = (search rules, omega (arith, length_part c.args.buffer.now c.steps_start-start.result (omega arith))); tabled = search rules }
 
 pub returns : goal.returns
 returns c = search (rules, first_passed)

@@ -1,10 +1,10 @@
-use mathlib.Core.Path.{sym, ap}
+use mathlib.Core.Path.{sym, ap, ◌∙◌}
 use Rattle.passes.specs.Passing.{full_of}
 use Rattle.passes.proofs.is_full.Goals as goal
 
 pub returns-in-Unknown : goal.returns-in-Unknown
 unfolding full_of
-returns-in-Unknown c = sym (ap full_of c.in-Unknown.is)
+returns-in-Unknown c = c.is_without_room.ensures ∙ sym (ap full_of c.in-Unknown.is)
 
 pub returns-in-ReturnedNothing : goal.returns-in-ReturnedNothing
 unfolding full_of

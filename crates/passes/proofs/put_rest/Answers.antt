@@ -1,16 +1,12 @@
 use Rattle.passes.proofs.Completing.{questions_room, laid, completes}
-use Rattle.passes.proofs.Streams.{call_ok_lem}
 use borrow.Author.Rules.{rules}
 use Rattle.passes.proofs.put_rest.Goals as goal
 
-pub limits_of-limits-requires : goal.limits_of-limits-requires
-limits_of-limits-requires c = search (rules, call_ok_lem)
-
 pub put_questions-at-requires : goal.put_questions-at-requires
-put_questions-at-requires c = record { files_accepted = search rules; workspace_long = search rules; tabled = search rules; holds = search rules; after_steps = search (rules, questions_room) }
+put_questions-at-requires c = record { workspace_long = search rules; tabled = search rules; holds = search rules; after_steps = search (rules, questions_room) }
 
 pub put_bodies-requires : goal.put_bodies-requires
-put_bodies-requires c = laid _ _ _ _ _ _ _ _ _ c.requires.files_accepted c.put_questions-at.ensures c.requires.exact
+put_bodies-requires c = laid _ _ _ _ _ _ _ _ _ c.args.files.accepted c.put_questions-at.ensures c.requires.exact
 
 pub returns : goal.returns
-returns c = completes _ _ _ _ _ c.requires.ended _ _ _ _ _ _ c.requires.exact _ c.limits_of-limits.ensures.0 c.put_questions-at.ensures c.put_bodies.ensures
+returns c = completes _ _ _ _ _ c.requires.ended _ _ _ _ _ _ c.requires.exact _ c.limits.ensures.0 c.put_questions-at.ensures c.put_bodies.ensures

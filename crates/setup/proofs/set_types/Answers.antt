@@ -13,5 +13,6 @@ put_types-requires c = (types_texts _ c.requires.0 c.body.ensures, search rules)
 
 pub returns : goal.returns
 returns c = let w = c.args.ws.now in
-    let z = c.clear.new.part in
-    (types_set c.args.routine.now w z c.requires.1 c.clear.ensures c.body.ensures c.put_types.ensures, types_size_lem c.args.routine.now w z c.requires.1 c.clear.ensures c.body.ensures c.put_types.ensures)
+    let z = c.fill.new.self in
+    let zero = c.fill.ensures.after (λ y e. e) in
+    (types_set c.args.routine.now w z c.requires.1 zero c.body.ensures c.put_types.ensures, types_size_lem c.args.routine.now w z c.requires.1 zero c.body.ensures c.put_types.ensures)

@@ -13,3 +13,6 @@ returns-in-4 c = search (rules, low_stored)
 
 pub returns-in-8 : goal.returns-in-8
 returns-in-8 c = search (rules, low_stored)
+
+pub returns-in_default : goal.returns-in_default
+returns-in_default c = search (rules, low_stored)

@@ -1,13 +1,7 @@
 use Rattle.stream.proofs.QuestionLaws.{length_symbol}
-use Rattle.stream.proofs.StreamLaws.{piece_room, sent_none, sent_piece}
+use Rattle.stream.proofs.StreamLaws.{sent}
 use borrow.Author.Rules.{rules}
 use Rattle.stream.proofs.question_symbol.Goals as goal
 
-pub put_symbol-requires : goal.put_symbol-requires
-put_symbol-requires c = search (rules, piece_room)
-
-pub returns-then-has_room : goal.returns-then-has_room
-returns-then-has_room c = search (rules, sent_piece, length_symbol)
-
 pub returns : goal.returns
-returns c = search (rules, sent_none, length_symbol)
+returns c = sent _ _ _ _ _ _ _ (search (rules, length_symbol)) c.send.ensures (λ p. search rules)

@@ -1,17 +1,15 @@
-use Rattle.text.proofs.PutLaws.{put_as, put_after}
-use mathlib.Core.Path.{ap₂}
-use Rattle.layout.specs.Text.{text}
-use Prim.Native.Nat.{ℕ}
-use Rattle.files.specs.Program.{texts_in}
-use Rattle.definition.specs.Listing.{name_text}
-use Rattle.text.specs.Lines.{header_text}
 use borrow.Author.Rules.{rules}
+use Rattle.text.proofs.PutLaws.{pushed_as, room_new, put_whole}
+use Rattle.text.proofs.Short.{header_short}
+use mathlib.Core.Path.{ap₂}
+use Rattle.files.specs.Program.{texts_in}
+use Rattle.text.specs.Lines.{header_text}
 use Rattle.text.proofs.header.Goals as goal
 
+pub header-requires-clause-room : goal.header-requires-clause-room
+header-requires-clause-room c = room_new c.new-line.result _ c.new-line.ensures.empty c.requires (header_short c.args.head.names.body.now c.name.result c.address.result)
+
 pub returns : goal.returns
-unfolding header_text
-returns c = (
-  put_as (put_after (text "; ") (name_text (texts_in c.args.names.now) c.get16-name.result) c.put_name-end.ensures.0 c.put_numbered.ensures.0)
-      (ap₂ (λ (n a : ℕ). header_text (texts_in c.args.names.now) n a) c.get16-name.ensures.0 c.get64.ensures),
-  search rules,
-)
+returns c =
+    put_whole (pushed_as c.header.ensures (ap₂ (header_text (texts_in c.args.head.names.body.now)) c.name.ensures.is c.address.ensures)) c.new-line.ensures.empty (search rules) c.len.ensures
+    (header_short c.args.head.names.body.now _ _)

@@ -1,19 +1,19 @@
-use Rattle.text.proofs.ReadLaws.{rest_of}
-use Rattle.files.specs.Program.{texts_in}
-use mathlib.Core.List.{List}
-use Prim.Native.Nat.{ℕ}
-use Rattle.index.specs.Texts.{text_count}
-use mathlib.Core.Path.{refl, ap, sym, subst}
-use Rattle.layout.specs.Number.{number_at}
-use Rattle.text.specs.Lines.{variable_line}
-use Rattle.value.specs.Encoding.{val_at}
-use Rattle.text.specs.Read.{VariableThere}
-use Rattle.text.proofs.PutLaws.{put_as}
 use borrow.Author.Rules.{rules}
+use Rattle.text.proofs.PutLaws.{pushed_as, room_new, put_whole}
+use Rattle.text.proofs.Short.{variable_short}
+use mathlib.Core.Path.{ap₂}
+use Prim.Native.Nat.{ℕ}
+use Rattle.value.specs.declared.Val.{Val}
+use Rattle.files.specs.Program.{texts_in}
+use Rattle.text.specs.Lines.{variable_line}
 use Rattle.text.proofs.variable_line.Goals as goal
 
-pub put_variable-length-requires : goal.put_variable-length-requires
-put_variable-length-requires c = record { texts_indexed = (search rules, subst (λ (l : List ℕ). VariableThere (text_count c.args.names.now) l) (sym (rest_of c.args.variables.now c.args.at)) (search rules)); out_long = search rules }
+pub variable-requires-clause-room : goal.variable-requires-clause-room
+variable-requires-clause-room c =
+    room_new c.new-line.result _ c.new-line.ensures.empty c.requires (variable_short c.args.variable.names.body.now (c.name.result, c.value.result))
 
 pub returns : goal.returns
-returns c = record { put = (put_as c.put_variable-length.ensures.0 (ap (λ (l : List ℕ). variable_line (texts_in c.args.names.now) (number_at l 0 2, val_at l 2)) (rest_of c.args.variables.now c.args.at)), c.put_variable-length.ensures.1); next_is = refl }
+returns c =
+    put_whole (pushed_as c.variable.ensures (ap₂ (λ (n : ℕ) (v : Val). variable_line (texts_in c.args.variable.names.body.now) (n, v)) c.name.ensures.is c.value.ensures))
+    c.new-line.ensures.empty (search rules) c.len.ensures
+    (variable_short c.args.variable.names.body.now _)

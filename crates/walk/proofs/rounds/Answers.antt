@@ -13,15 +13,15 @@ pub turn-next-requires : goal.turn-next-requires
 turn-next-requires c = let left = c.loop-spot.invariant.1.1 in
     record { ready_in = left.ready; rooted = left.rooted; placed_at = (left.placed, c.loop-spot-test.true); balanced = (left.balanced, omega (arith, c.if-spent.false, c.left-spent.ensures)) }
 
-pub returns-in-Stops : goal.returns-in-Stops
-returns-in-Stops c = search (rules, stops_with)
+pub returns-in-Break : goal.returns-in-Break
+returns-in-Break c = search (rules, stops_with)
 
 pub loop-spot-smaller : goal.loop-spot-smaller
 loop-spot-smaller c = search (rules, goes_less)
 
 pub loop-spot-preserved : goal.loop-spot-preserved
 loop-spot-preserved c = let inv = c.loop-spot.invariant in
-    (search rules, (search rules, goes_on inv.1.1 c.turn-next.ensures c.in-Goes.is))
+    (search rules, (search rules, goes_on inv.1.1 c.turn-next.ensures c.in-Continue.is))
 
 pub returns : goal.returns
 returns c = search (rules, stops_missing)

@@ -9,10 +9,10 @@ pub ahead-requires : goal.ahead-requires
 ahead-requires c = λ e. statement_small (c.requires.placing.1 e)
 
 pub settle-requires : goal.settle-requires
-settle-requires c = record { ready_in = on_ready c.run_at-halt.ensures c.in-Not.is; placing = c.requires.placing.0 }
+settle-requires c = record { ready_in = on_ready c.run_at-halt.ensures c.in-None.is; placing = c.requires.placing.0 }
 
-pub returns-in-With : goal.returns-in-With
-returns-in-With c = search (rules, unit_stops)
+pub returns-in-Some : goal.returns-in-Some
+returns-in-Some c = search (rules, unit_stops)
 
-pub returns-in-Not : goal.returns-in-Not
-returns-in-Not c = search (rules, unit_settles)
+pub returns-in-None : goal.returns-in-None
+returns-in-None c = search (rules, unit_settles)

@@ -1,21 +1,28 @@
-use mathlib.Core.Path.{refl}
+use borrow.Author.Tests.{le-leb, lt-leb}
+use mathlib.Core.Bool.{and-false}
 use native.Mathlib.Omega.{arith}
-use borrow.Author.Rules.{rules}
-use Rattle.files.proofs.BlockLaws.{block_short, block_much, block_odd, block_past, block_good}
-use Rattle.std.proofs.Common.{ap, not}
+use Rattle.files.specs.Blocks.{block_at}
+use Rattle.files.proofs.ItemLaws.{some_there}
 use Rattle.files.proofs.blocks.block_at.Goals as goal
 
-pub returns-then-b-i-lt-BLOCK : goal.returns-then-b-i-lt-BLOCK
-returns-then-b-i-lt-BLOCK c = (search (rules, block_short), (omega arith, λ h. absurd (h refl)))
+pub returns-then-b-i-lt-BLOCK-clause-block : goal.returns-then-b-i-lt-BLOCK-clause-block
+unfolding block_at
+returns-then-b-i-lt-BLOCK-clause-block c = simp (lt-leb _ _ c.if-b-i-lt-BLOCK.true)
 
-pub returns-then-left-get16 : goal.returns-then-left-get16
-returns-then-left-get16 c = (search (rules, block_much), (omega arith, λ h. absurd (h refl)))
+pub returns-then-left-get-clause-block : goal.returns-then-left-get-clause-block
+unfolding block_at
+returns-then-left-get-clause-block c = simp (← c.get.ensures.number, lt-leb _ _ c.if-left-get.true, and-false)
 
-pub returns-then-not-check_block : goal.returns-then-not-check_block
-returns-then-not-check_block c = (search (rules, block_odd), (omega arith, λ h. absurd (h refl)))
+pub returns-then-not-check_block-clause-block : goal.returns-then-not-check_block-clause-block
+unfolding block_at
+returns-then-not-check_block-clause-block c = simp (← c.check_block.ensures, c.if-not-check_block.true, and-false)
 
-pub returns-then-b-i : goal.returns-then-b-i
-returns-then-b-i c = (search (rules, block_past), (omega arith, λ h. absurd (h refl)))
+pub returns-then-b-i-clause-block : goal.returns-then-b-i-clause-block
+unfolding block_at
+returns-then-b-i-clause-block c = simp (← c.cases-more.ensures.0, lt-leb _ _ c.if-b-i.true, and-false)
 
-pub returns : goal.returns
-returns c = (block_good _ _ _ _ (omega arith) _ c.get16.ensures.0 (omega arith) _ c.check_block.ensures (ap not c.if-not-check_block.false) _ c.cases-more.ensures.0 (omega arith), (omega arith, λ h. (omega arith, omega arith)))
+pub returns-clause-block : goal.returns-clause-block
+unfolding block_at
+returns-clause-block c =
+    some_there _ _ (omega arith)
+    (simp (le-leb _ _ c.if-b-i-lt-BLOCK.false, ← c.get.ensures.number, le-leb _ _ c.if-left-get.false, ← c.check_block.ensures, c.if-not-check_block.false, ← c.cases-more.ensures.0, le-leb _ _ c.if-b-i.false))

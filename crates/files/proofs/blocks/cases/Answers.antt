@@ -6,4 +6,4 @@ pub returns-then-b-i-ne3 : goal.returns-then-b-i-ne3
 returns-then-b-i-ne3 c = (simp (ne_eqb _ _ c.if-b-i-ne3.true), omega arith)
 
 pub returns : goal.returns
-returns c = (simp (← c.get32.ensures.0, eq-eqb _ _ c.if-b-i-ne3.false), omega arith)
+returns c = (simp (← c.get.ensures.number, eq-eqb _ _ c.if-b-i-ne3.false), omega arith)

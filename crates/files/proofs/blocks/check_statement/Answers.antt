@@ -3,4 +3,4 @@ use Rattle.files.proofs.blocks.check_statement.Goals as goal
 
 pub returns : goal.returns
 unfolding statement_ok
-returns c = rw (c.is_address.ensures, c.is_root.ensures, c.get32-root.ensures.0, c.get64-at.ensures)
+returns c = rw (c.is_address.ensures, c.is_root.ensures, c.get-root.ensures.number, c.get-at.ensures.number)

@@ -13,10 +13,10 @@ overflow_mul-i c = omega (arith, rw length_listed at c.requires)
 pub overflow_add-i : goal.overflow_add-i
 overflow_add-i c = omega (arith, rw length_listed at c.requires)
 
-pub get64-requires : goal.get64-requires
-get64-requires c = omega (arith, rw length_listed at c.requires)
+pub get-requires-clause-inside : goal.get-requires-clause-inside
+get-requires-clause-inside c = omega (arith, rw length_listed at c.requires)
 
 pub returns : goal.returns
 returns c = let i = c.args.i in
     let b = c.args.b.now in
-    c.get64.ensures ∙ sym (get_d_listed (argument_at b) 0 ((length b - 8) / 8) i 0 (rw length_listed at c.requires) ∙ rw zero-add)
+    c.get.ensures.number ∙ sym (get_d_listed (argument_at b) 0 ((length b - 8) / 8) i 0 (rw length_listed at c.requires) ∙ rw zero-add)

@@ -7,4 +7,4 @@ overflow_cast-result c = omega (arith, c.type_inv.b 12)
 
 pub returns : goal.returns
 unfolding fixed_ok
-returns c = rw (c.get16-name.ensures.0, c.get16-kind.ensures.0)
+returns c = rw (c.get-name.ensures.number, c.get-kind.ensures.number)

@@ -3,11 +3,11 @@ use borrow.Author.Rules.{rules}
 use Rattle.files.proofs.NameLaws.{printable_end, printable_on}
 use Rattle.files.proofs.names.printed.Goals as goal
 
-pub loop-i-init : goal.loop-i-init
-loop-i-init c = (refl, search rules)
+pub loop-x-init : goal.loop-x-init
+loop-x-init c = refl
 
-pub loop-i-preserved : goal.loop-i-preserved
-loop-i-preserved c = search (rules, printable_on)
+pub loop-x-preserved : goal.loop-x-preserved
+loop-x-preserved c = search (rules, printable_on)
 
 pub returns : goal.returns
 returns c = search (rules, printable_end)

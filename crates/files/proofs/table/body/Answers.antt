@@ -3,4 +3,4 @@ use Rattle.files.proofs.table.body.Goals as goal
 
 pub returns : goal.returns
 unfolding body
-returns c = simp (c.get16-start.ensures.0, c.get16.ensures.0)
+returns c = simp (c.get-start.ensures.number, c.get.ensures.number)

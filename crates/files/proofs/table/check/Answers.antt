@@ -10,8 +10,8 @@ returns-then-f-gt-LONGEST c = search (rules, table_long)
 pub returns-then-f-end : goal.returns-then-f-end
 returns-then-f-end c = search (rules, table_short)
 
-pub returns-then-get16-n : goal.returns-then-get16-n
-returns-then-get16-n c = search (rules, table_count)
+pub returns-then-get-n : goal.returns-then-get-n
+returns-then-get-n c = search (rules, table_count)
 
 pub loop-k-init : goal.loop-k-init
 unfolding every
@@ -21,7 +21,7 @@ pub returns-then-start-end : goal.returns-then-start-end
 returns-then-start-end c = search (rules, table_gap)
 
 pub loop-k-preserved : goal.loop-k-preserved
-loop-k-preserved c = (search rules, (search (rules, table_next), table_on _ _ _ _ _ c.loop-k.invariant.1.1 c.get16-start.ensures.0 c.loop-k.invariant.1.0 c.if-start-end.false))
+loop-k-preserved c = (search (rules, table_next), table_on _ _ _ _ _ c.loop-k.invariant.1 c.get-start.ensures.number c.loop-k.invariant.0 c.if-start-end.false)
 
 pub returns : goal.returns
-returns c = table_ends _ _ (omega arith) (omega arith) _ c.get16.ensures.0 c.if-get16-n.false _ (omega arith) (omega arith) c.loop-k.invariant.1.1 _ c.loop-k.invariant.1.0
+returns c = table_ends _ _ (omega arith) (omega arith) _ c.get.ensures.number c.if-get-n.false _ (omega arith) (omega arith) c.loop-k.invariant.1 _ c.loop-k.invariant.0

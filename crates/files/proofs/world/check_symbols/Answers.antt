@@ -17,7 +17,7 @@ pub returns-then-names-name : goal.returns-then-names-name
 returns-then-names-name c = search (rules, symbols_past)
 
 pub loop-k-preserved : goal.loop-k-preserved
-loop-k-preserved c = (search rules, (search rules, (search (rules, symbols_next), search (rules, symbols_on))))
+loop-k-preserved c = (search (rules, symbols_next), search (rules, symbols_on))
 
 pub returns : goal.returns
 returns c = search (rules, symbols_good)

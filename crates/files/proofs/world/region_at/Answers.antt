@@ -1,27 +1,37 @@
-use mathlib.Core.Path.{refl}
+use borrow.Author.Tests.{le-leb, lt-leb}
+use mathlib.Core.Bool.{and-false}
+use Prim.Native.Nat.{◌+◌, ◌^◌, ◌≤◌, ◌<◌}
 use native.Mathlib.Omega.{arith}
-use borrow.Author.Rules.{rules}
-use Rattle.files.proofs.WorldLaws.{region_short, region_empty, region_past, region_far, region_back, region_good, region_end}
-use Rattle.std.proofs.Common.{ap, not}
+use Rattle.files.specs.WorldFile.{region_at}
+use Rattle.files.proofs.ItemLaws.{some_there}
 use Rattle.files.proofs.world.region_at.Goals as goal
 
-pub returns-then-b-i-lt-REGION : goal.returns-then-b-i-lt-REGION
-returns-then-b-i-lt-REGION c = (search (rules, region_short), (omega arith, λ h. absurd (h refl)))
+pub returns-then-b-i-lt-REGION-clause-region : goal.returns-then-b-i-lt-REGION-clause-region
+unfolding region_at
+returns-then-b-i-lt-REGION-clause-region c = simp (lt-leb _ _ c.if-b-i-lt-REGION.true)
 
-pub returns-then-size-eq0 : goal.returns-then-size-eq0
-returns-then-size-eq0 c = (search (rules, region_empty), (omega arith, λ h. absurd (h refl)))
+pub returns-then-size-eq0-clause-region : goal.returns-then-size-eq0-clause-region
+unfolding region_at
+returns-then-size-eq0-clause-region c = simp (← c.get-size.ensures.number, c.if-size-eq0.true, and-false)
 
-pub returns-then-at-size : goal.returns-then-at-size
-returns-then-at-size c = (region_far _ _ _ _ _ c.get32-size.ensures.0 _ c.get64-at.ensures (omega arith), (omega arith, λ h. absurd (h refl)))
+pub returns-then-at-size-clause-region : goal.returns-then-at-size-clause-region
+unfolding region_at
+returns-then-at-size-clause-region c =
+    let far : 2 ^ 64 < c.get-at.result + c.get-size.result = omega arith in
+    simp (← c.get-at.ensures.number, ← c.get-size.ensures.number, lt-leb _ _ far, and-false)
 
-pub returns-then-b-i : goal.returns-then-b-i
-returns-then-b-i c = (search (rules, region_past), (omega arith, λ h. absurd (h refl)))
+pub returns-then-b-i-clause-region : goal.returns-then-b-i-clause-region
+unfolding region_at
+returns-then-b-i-clause-region c = simp (← c.get-size.ensures.number, lt-leb _ _ c.if-b-i.true, and-false)
 
-pub returns-then-not-n-last : goal.returns-then-not-n-last
-returns-then-not-n-last c = (region_back _ _ _ _ _ c.get32-size.ensures.0 _ c.get64-at.ensures (ap not c.if-not-n-last.true), (omega arith, λ h. absurd (h refl)))
+pub returns-then-not-n-last-clause-region : goal.returns-then-not-n-last-clause-region
+unfolding region_at
+returns-then-not-n-last-clause-region c = simp (← c.get-at.ensures.number, c.if-not-n-last.true, and-false)
 
-pub returns : goal.returns
-returns c = (
-  region_good _ _ _ _ _ c.get32-size.ensures.0 _ c.get64-at.ensures (omega arith) (omega arith) (omega arith) (omega arith) (ap not c.if-not-n-last.false),
-  (omega arith, λ h. region_end _ _ _ _ c.get64-at.ensures (omega arith) (omega arith)),
-)
+pub returns-clause-region : goal.returns-clause-region
+unfolding region_at
+returns-clause-region c =
+    let some : 1 ≤ c.get-size.result = omega arith in
+    let near : c.get-at.result + c.get-size.result ≤ 2 ^ 64 = omega arith in
+    some_there _ _ (omega arith)
+    (simp (le-leb _ _ c.if-b-i-lt-REGION.false, ← c.get-at.ensures.number, ← c.get-size.ensures.number, le-leb _ _ some, le-leb _ _ near, le-leb _ _ c.if-b-i.false, c.if-not-n-last.false))

@@ -7,4 +7,4 @@ pub returns-then-byte-eq0 : goal.returns-then-byte-eq0
 returns-then-byte-eq0 c = let s = c.args in address_none s.s.now s.at _ (number_at s.s.now (s.at + 1) 8) c.byte.ensures.0 c.if-byte-eq0.true
 
 pub returns : goal.returns
-returns c = let s = c.args in address_some s.s.now s.at _ (number_at s.s.now (s.at + 1) 8) c.byte.ensures.0 c.if-byte-eq0.false c.get64.ensures
+returns c = let s = c.args in address_some s.s.now s.at _ (number_at s.s.now (s.at + 1) 8) c.byte.ensures.0 c.if-byte-eq0.false c.get.ensures.number

@@ -1,4 +1,3 @@
-use native.Mathlib.Omega.{arith}
 use Rattle.index.proofs.RegionIndex.{its_body, no_next, next_inside, next_later, next_touches, next_apart}
 use borrow.Author.Rules.{rules}
 use Rattle.index.proofs.regions.touching.Goals as goal
@@ -15,11 +14,11 @@ start_of-requires-then-next-regions c = search (rules, next_inside)
 pub overflow_sub-start_of : goal.overflow_sub-start_of
 overflow_sub-start_of c = search (rules, next_later)
 
-pub returns-then-start_of-last-eq1 : goal.returns-then-start_of-last-eq1
-returns-then-start_of-last-eq1 c = (search (rules, next_touches), omega arith)
+pub returns-then-start_of-last-eq1-clause-located : goal.returns-then-start_of-last-eq1-clause-located
+returns-then-start_of-last-eq1-clause-located c = search (rules, next_touches)
 
-pub returns-else-start_of-last-eq1 : goal.returns-else-start_of-last-eq1
-returns-else-start_of-last-eq1 c = (search (rules, next_apart), omega arith)
+pub returns-else-start_of-last-eq1-clause-located : goal.returns-else-start_of-last-eq1-clause-located
+returns-else-start_of-last-eq1-clause-located c = search (rules, next_apart)
 
-pub returns-else-next-regions : goal.returns-else-next-regions
-returns-else-next-regions c = (search (rules, no_next), omega arith)
+pub returns-else-next-regions-clause-located : goal.returns-else-next-regions-clause-located
+returns-else-next-regions-clause-located c = search (rules, no_next)

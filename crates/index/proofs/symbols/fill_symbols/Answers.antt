@@ -10,11 +10,11 @@ loop-at-init c = search (rules, merge_none)
 pub text_at-name-requires : goal.text_at-name-requires
 text_at-name-requires c = search (rules, merge_text)
 
-pub seek-cursor-requires : goal.seek-cursor-requires
-seek-cursor-requires c = search (rules, merge_passed)
+pub seek-found-requires : goal.seek-found-requires
+seek-found-requires c = search (rules, merge_passed)
 
-pub put16-requires : goal.put16-requires
-put16-requires c = search (rules, merge_room)
+pub put-requires-clause-inside : goal.put-requires-clause-inside
+put-requires-clause-inside c = search (rules, merge_room)
 
 pub loop-at-preserved : goal.loop-at-preserved
 loop-at-preserved c = search (rules, merge_more)

@@ -4,20 +4,20 @@ use borrow.Author.Rules.{rules}
 use Rattle.index.proofs.SymbolSearch.{seek_whole, seek_named, seek_skip, seek_inside, seek_stands, seek_passes, seek_equal, seek_greater, seek_end}
 use Rattle.index.proofs.symbols.seek.Goals as goal
 
-pub get16-wanted-requires : goal.get16-wanted-requires
-get16-wanted-requires c = omega (arith, seek_whole c.requires.0 c.loop-symbol.invariant.0 c.loop-symbol-test.true)
+pub get-wanted-requires-clause-inside : goal.get-wanted-requires-clause-inside
+get-wanted-requires-clause-inside c = omega (arith, seek_whole c.requires.0 c.loop-cursor.invariant.0 c.loop-cursor-test.true)
 
 pub overflow_sub-wanted : goal.overflow_sub-wanted
 overflow_sub-wanted c = search (rules, seek_named)
 
-pub skip-at-requires : goal.skip-at-requires
-skip-at-requires c = search (rules, seek_skip)
+pub skip-requires : goal.skip-requires
+skip-requires c = search (rules, seek_skip)
 
 pub text_at-requires : goal.text_at-requires
 text_at-requires c = search (rules, seek_inside)
 
-pub loop-symbol-preserved : goal.loop-symbol-preserved
-loop-symbol-preserved c = search (rules, seek_stands, seek_passes)
+pub loop-cursor-preserved : goal.loop-cursor-preserved
+loop-cursor-preserved c = search (rules, seek_stands, seek_passes)
 
 pub returns-in-Equal : goal.returns-in-Equal
 returns-in-Equal c = search (rules, seek_equal)
@@ -26,4 +26,4 @@ pub returns-in-Greater : goal.returns-in-Greater
 returns-in-Greater c = search (rules, seek_greater)
 
 pub returns : goal.returns
-returns c = search (rules, seek_end)
+returns c = seek_end c.requires.0 c.loop-cursor.invariant.0 (omega arith) c.loop-cursor.invariant.1

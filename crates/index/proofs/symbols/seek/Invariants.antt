@@ -4,8 +4,8 @@ use lib.ListN.{length}
 use Rattle.index.specs.Symbols.{Standing, Passed}
 use Rattle.index.proofs.symbols.seek.Given as goal
 
-abbrev pub invariant-loop-symbol : goal.invariant-loop-symbol
-invariant-loop-symbol l = Standing l.world_names l.symbols l.symbol l.number l.at × Passed l.world_names l.symbols l.symbol l.name
+abbrev pub invariant-loop-cursor : goal.invariant-loop-cursor
+invariant-loop-cursor l = Standing l.world_names l.symbols l.cursor.symbol l.cursor.name l.cursor.at × Passed l.world_names l.symbols l.cursor.symbol l.name
 
-abbrev pub decreases-loop-symbol : goal.decreases-loop-symbol
-decreases-loop-symbol l = length l.symbols - l.symbol * 11
+abbrev pub decreases-loop-cursor : goal.decreases-loop-cursor
+decreases-loop-cursor l = length l.symbols - l.cursor.symbol * 11

@@ -1,23 +1,26 @@
--- `skip` meets its contract. The loop's invariant: the place that so many more names lead to is the same. Assumes nothing.
-use mathlib.Core.Path.{◌≡◌, sym, ap, ◌∙◌}
+-- `skip` meets its contract. Assumes nothing.
+use mathlib.Core.Path.{refl, ap, ◌∙◌}
+use Prim.Native.Nat.{ℕ}
 use native.Mathlib.Omega.{arith}
-use borrow.Author.Rules.{rules}
 use Rattle.index.specs.Places.{place_from, text_size}
-use Rattle.index.proofs.TextIndex.{skip_inside, skip_on}
+use Rattle.index.proofs.TextIndex.{skip_inside, skip_next}
 use Rattle.index.proofs.symbols.skip.Goals as goal
 
-pub get8-requires : goal.get8-requires
-get8-requires c = search (rules, skip_inside)
+pub loop-step-init : goal.loop-step-init
+unfolding place_from
+loop-step-init c = refl
+
+pub get-requires-clause-inside : goal.get-requires-clause-inside
+get-requires-clause-inside c = omega (arith, skip_inside c.args.names.now c.args.at c.loop-step._step c.args.steps c.loop-step-test.true c.loop-step.invariant c.requires)
 
 pub overflow_add-place : goal.overflow_add-place
-overflow_add-place c = omega (arith, skip_inside c.args.names.now c.loop-left.place c.loop-left.left c.loop-left-test.true c.loop-left.invariant c.requires)
+overflow_add-place c = record { fits = omega (arith, c.get.ensures.number, skip_inside c.args.names.now c.args.at c.loop-step._step c.args.steps c.loop-step-test.true c.loop-step.invariant c.requires) }
 
-pub overflow_add-place-in-loop-left : goal.overflow_add-place-in-loop-left
-overflow_add-place-in-loop-left c = omega (arith, skip_inside c.args.names.now c.loop-left.place c.loop-left.left c.loop-left-test.true c.loop-left.invariant c.requires)
+pub overflow_add-place-in-loop-step : goal.overflow_add-place-in-loop-step
+overflow_add-place-in-loop-step c = record { fits = omega (arith, c.get.ensures.number, skip_inside c.args.names.now c.args.at c.loop-step._step c.args.steps c.loop-step-test.true c.loop-step.invariant c.requires) }
 
-pub loop-left-preserved : goal.loop-left-preserved
-loop-left-preserved c = search (rules, skip_on)
+pub loop-step-preserved : goal.loop-step-preserved
+loop-step-preserved c = skip_next c.args.names.now c.args.at c.loop-step._step c.args.steps c.loop-step-test.true c.loop-step.invariant c.get.ensures.number
 
 pub returns : goal.returns
-unfolding place_from
-returns c = let z : c.loop-left.left ≡ 0 = omega arith in sym (c.loop-left.invariant ∙ ap (place_from (text_size c.args.names.now) c.loop-left.place) z)
+returns c = c.loop-step.invariant ∙ ap (λ (k : ℕ). place_from (text_size c.args.names.now) c.args.at k) (omega arith)

@@ -7,8 +7,8 @@ use Rattle.index.proofs.texts.fill_texts.Goals as goal
 pub loop-at-init : goal.loop-at-init
 loop-at-init c = search (rules, texts_none)
 
-pub put16-requires : goal.put16-requires
-put16-requires c = search (rules, text_room)
+pub put-requires-clause-inside : goal.put-requires-clause-inside
+put-requires-clause-inside c = search (rules, text_room)
 
 pub loop-at-preserved : goal.loop-at-preserved
 loop-at-preserved c = search (rules, text_filled)

@@ -23,8 +23,8 @@ set_variable-requires c = search (rules, under_below)
 pub add_name-requires : goal.add_name-requires
 add_name-requires c = search (rules, still_open)
 
-pub returns-in-As : goal.returns-in-As
-returns-in-As c = search (rules, takes_local)
+pub returns-in-Some : goal.returns-in-Some
+returns-in-Some c = search (rules, takes_local)
 
-pub returns-in-Nothing : goal.returns-in-Nothing
-returns-in-Nothing c = search (rules, takes_undeclared)
+pub returns-in-None : goal.returns-in-None
+returns-in-None c = search (rules, takes_undeclared)

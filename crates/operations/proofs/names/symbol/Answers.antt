@@ -5,20 +5,17 @@ use Rattle.operations.proofs.names.symbol.Goals as goal
 pub undefined-requires : goal.undefined-requires
 undefined-requires c = search (rules, name_below, asked_room)
 
-pub returns-then-not-a : goal.returns-then-not-a
-returns-then-not-a c = symbol_none c.ask_address-a.ensures c.requires.fine c.requires.of_kind c.reference.ensures.0 c.if-not-a.true c.undefined.ensures
+pub returns-in_default : goal.returns-in_default
+returns-in_default c = symbol_none c.ask_address.ensures c.requires.fine c.requires.of_kind c.reference.ensures.0 c.in_default.is c.undefined.ensures
 
-pub ask_size-s-requires : goal.ask_size-s-requires
-ask_size-s-requires c = record { workspace_long = asked_room c.ask_address-a.ensures c.requires.ready_in.ready.fit.room; symbols_read = asked_symbols c.ask_address-a.ensures c.requires.ready_in.ready.symbols; fine = c.requires.fine; of_kind = c.requires.of_kind }
+pub ask_size-size-requires : goal.ask_size-size-requires
+ask_size-size-requires c = record { workspace_long = asked_room c.ask_address.ensures c.requires.ready_in.ready.fit.room; symbols_read = asked_symbols c.ask_address.ensures c.requires.ready_in.ready.symbols; fine = c.requires.fine; of_kind = c.requires.of_kind }
 
-pub unknown-requires : goal.unknown-requires
-unknown-requires c = sized_room c.ask_address-a.ensures c.ask_size-s.ensures c.requires.ready_in.ready.fit.room
-
-pub returns-then-bits-eq0 : goal.returns-then-bits-eq0
-returns-then-bits-eq0 c = symbol_unsized c.ask_address-a.ensures c.if-not-a.false c.ask_size-s.ensures _ c.width_of-bits.ensures.0 c.if-bits-eq0.true c.unknown.ensures
+pub returns-in_default-width_of : goal.returns-in_default-width_of
+returns-in_default-width_of c = symbol_unsized c.ask_address.ensures c.in-Some.is c.ask_size-size.ensures c.width_of.ensures.is c.in_default-width_of.is c.unknown.ensures
 
 pub load_at-requires : goal.load_at-requires
-load_at-requires c = record { fit = sized_fit c.ask_address-a.ensures c.ask_size-s.ensures c.requires.ready_in.ready.fit; regions_indexed = sized_regions c.ask_address-a.ensures c.ask_size-s.ensures c.requires.ready_in.ready.regions; bits_bound = c.width_of-bits.ensures.1 }
+load_at-requires c = record { fit = sized_fit c.ask_address.ensures c.ask_size-size.ensures c.requires.ready_in.ready.fit; regions_indexed = sized_regions c.ask_address.ensures c.ask_size-size.ensures c.requires.ready_in.ready.regions; bits_bound = rw c.new.ensures c.in-Some-width_of.ensures.small }
 
 pub returns : goal.returns
-returns c = symbol_loads c.ask_address-a.ensures c.if-not-a.false c.ask_size-s.ensures _ c.width_of-bits.ensures.0 c.if-bits-eq0.false c.load_at.ensures
+returns c = symbol_loads c.ask_address.ensures c.in-Some.is c.ask_size-size.ensures c.width_of.ensures.is c.in-Some-width_of.is (rw c.new.ensures at c.load_at.ensures)

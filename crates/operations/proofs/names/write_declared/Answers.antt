@@ -8,8 +8,8 @@ declared-declaration-requires c = search (rules, name_below)
 pub set_variable-requires : goal.set_variable-requires
 set_variable-requires c = search (rules, name_below)
 
-pub returns-in-As : goal.returns-in-As
-returns-in-As c = search (rules, if_declared)
+pub returns-in-Some : goal.returns-in-Some
+returns-in-Some c = search (rules, if_declared)
 
-pub returns-in-Nothing : goal.returns-in-Nothing
-returns-in-Nothing c = search (rules, if_undeclared)
+pub returns-in-None : goal.returns-in-None
+returns-in-None c = search (rules, if_undeclared)

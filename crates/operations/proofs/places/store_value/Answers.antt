@@ -9,8 +9,8 @@ returns-then-not-v c = search (rules, not-true, value_unknown)
 pub store_number-s-requires : goal.store_number-s-requires
 store_number-s-requires c = search (rules, fit_word)
 
-pub returns-in-Count : goal.returns-in-Count
-returns-in-Count c = search (rules, not-false, value_stored)
+pub returns-in-Ok : goal.returns-in-Ok
+returns-in-Ok c = search (rules, not-false, value_stored)
 
-pub returns-in-Full : goal.returns-in-Full
-returns-in-Full c = search (rules, not-false, value_full)
+pub returns-in-Err : goal.returns-in-Err
+returns-in-Err c = value_full c.args.ws.now c.args.address c.args.v c.word-stored.result _ c.store_number-s.result (not-false _ c.if-not-v.false) c.word-stored.ensures c.store_number-s.ensures _ _ c.in-Err.is c.ends-in-Err.ensures

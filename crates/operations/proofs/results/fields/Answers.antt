@@ -1,6 +1,5 @@
 use Rattle.operations.proofs.Answering.{tells_fields}
-use Rattle.std.proofs.Common.{rules}
 use Rattle.operations.proofs.results.fields.Goals as goal
 
 pub returns : goal.returns
-returns c = search (rules, tells_fields)
+returns c = tells_fields c.from.ensures c.set_word.ensures c.set_word-2.ensures c.set_word-3.ensures

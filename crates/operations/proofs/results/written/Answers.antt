@@ -1,6 +1,5 @@
 use Rattle.operations.proofs.Answering.{tells_written}
-use Rattle.std.proofs.Common.{rules}
 use Rattle.operations.proofs.results.written.Goals as goal
 
 pub returns : goal.returns
-returns c = search (rules, tells_written)
+returns c = tells_written c.from.ensures c.set_word.ensures c.set_word-2.ensures c.set_value.ensures

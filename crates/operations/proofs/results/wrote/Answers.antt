@@ -1,6 +1,5 @@
 use Rattle.operations.proofs.Answering.{tells_wrote}
-use Rattle.std.proofs.Common.{rules}
 use Rattle.operations.proofs.results.wrote.Goals as goal
 
 pub returns : goal.returns
-returns c = search (rules, tells_wrote)
+returns c = tells_wrote c.from.ensures c.set_word.ensures c.set_word-2.ensures c.set_value.ensures

@@ -10,8 +10,8 @@ body-names-requires c = search (rules, routine_body)
 pub body-requires : goal.body-requires
 body-requires c = search (rules, routine_body)
 
-pub get16-i-requires : goal.get16-i-requires
-get16-i-requires c = search (rules, head_room)
+pub get-i-requires-clause-inside : goal.get-i-requires-clause-inside
+get-i-requires-clause-inside c = search (rules, head_room)
 
 pub body-requires-2 : goal.body-requires-2
 body-requires-2 c = search (rules, routine_body)

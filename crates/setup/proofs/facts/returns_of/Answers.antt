@@ -1,10 +1,11 @@
 -- `returns_of` meets its contract. Assumes nothing.
+use Rattle.layout.proofs.TextLaws.{slices_same}
 use Rattle.setup.proofs.BodyFacts.{returns_void, returns_as_lem}
 use borrow.Author.Rules.{rules}
 use Rattle.setup.proofs.facts.returns_of.Goals as goal
 
-pub returns-then-same_bytes : goal.returns-then-same_bytes
-returns-then-same_bytes c = search (rules, returns_void)
+pub returns-then-eq : goal.returns-then-eq
+returns-then-eq c = search (rules, returns_void, slices_same)
 
 pub returns : goal.returns
-returns c = search (rules, returns_as_lem)
+returns c = search (rules, returns_as_lem, slices_same)

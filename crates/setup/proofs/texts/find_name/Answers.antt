@@ -9,8 +9,8 @@ loop-at-init c = search (rules, seek_none)
 pub text_at-name-requires : goal.text_at-name-requires
 text_at-name-requires c = search (rules, seek_inside)
 
-pub returns-then-same_bytes : goal.returns-then-same_bytes
-returns-then-same_bytes c = search (rules, seek_found)
+pub returns-then-eq : goal.returns-then-eq
+returns-then-eq c = search (rules, seek_found)
 
 pub overflow_add-at : goal.overflow_add-at
 overflow_add-at c = search (rules, seek_room)

@@ -3,8 +3,8 @@ use Rattle.setup.proofs.SettingLaws.{added_set, added_unset}
 use borrow.Author.Rules.{rules}
 use Rattle.setup.proofs.variables.add_if_unset.Goals as goal
 
-pub returns-in-Set : goal.returns-in-Set
-returns-in-Set c = search (rules, added_set)
+pub returns-in-Some : goal.returns-in-Some
+returns-in-Some c = search (rules, added_set)
 
-pub returns-in-Unset : goal.returns-in-Unset
-returns-in-Unset c = search (rules, added_unset)
+pub returns-in-None : goal.returns-in-None
+returns-in-None c = search (rules, added_unset)

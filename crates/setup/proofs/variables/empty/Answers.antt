@@ -3,4 +3,4 @@ use Rattle.setup.proofs.EmptyLaws.{empties}
 use Rattle.setup.proofs.variables.empty.Goals as goal
 
 pub returns : goal.returns
-returns c = empties c.args.ws.now c.clear.new.part c.requires c.clear.ensures
+returns c = empties c.args.ws.now c.fill.new.self c.requires (c.fill.ensures.after (λ y e. e))

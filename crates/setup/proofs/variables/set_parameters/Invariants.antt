@@ -1,12 +1,9 @@
 -- `set_parameters` meets its contract. The loop's invariant: the first k parameters are set. Assumes nothing.
 use mathlib.Core.Path.{◌≡◌}
-use Prim.Native.Nat.{◌-◌, ◌≤◌}
+use Prim.Native.Nat.{◌≤◌}
 use Rattle.setup.specs.Heads.{variable_count, parameter_count}
 use Rattle.setup.specs.Post.{StartsSome}
 use Rattle.setup.proofs.variables.set_parameters.Given as goal
 
 abbrev pub invariant-loop-k : goal.invariant-loop-k
 invariant-loop-k l = (l.k ≤ l.count) × ((l.count ≡ parameter_count l.head) × ((l.count ≤ variable_count l.head) × StartsSome l.head l.call l.k l.initial.ws l.ws))
-
-abbrev pub decreases-loop-k : goal.decreases-loop-k
-decreases-loop-k l = l.count - l.k

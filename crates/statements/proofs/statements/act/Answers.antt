@@ -1,4 +1,5 @@
-use Rattle.statements.proofs.OutcomeLaws.{acting_strays, acting_halts, acting_plain, gives_kind, halts_room}
+use Rattle.statements.proofs.OutcomeLaws.{acting_strays, acting_halts, acting_does, acting_fails, gives_kind, halts_room}
+use Rattle.std.proofs.lemmas.Result.{err_from_is_err_and}
 use borrow.Author.Rules.{rules}
 use Rattle.statements.proofs.statements.act.Goals as goal
 
@@ -8,14 +9,14 @@ give-requires c = search (rules, gives_kind)
 pub value-requires : goal.value-requires
 value-requires c = search (rules, halts_room)
 
-pub execute-requires : goal.execute-requires
-execute-requires c = record { ready_in = c.requires.ready_in; fine = c.requires.fine }
-
 pub returns-in-Unreachable : goal.returns-in-Unreachable
-returns-in-Unreachable c = search (rules, acting_strays)
+returns-in-Unreachable c = acting_strays c.requires.ready_in c.sort_of.ensures c.in-Unreachable.is
 
 pub returns-in-Halts : goal.returns-in-Halts
-returns-in-Halts c = search (rules, acting_halts)
+returns-in-Halts c = acting_halts c.requires.ready_in c.sort_of.ensures c.in-Halts.is c.value.ensures
 
-pub returns-in-Plain : goal.returns-in-Plain
-returns-in-Plain c = acting_plain c.requires.ready_in c.requires.fine c.sort_of-sort.ensures c.in-Plain.is c.execute.ensures c.done.ensures
+pub returns-in_err-did-in-Plain : goal.returns-in_err-did-in-Plain
+returns-in_err-did-in-Plain c = let p = err_from_is_err_and c.from_residual.result c.from_residual.ensures.1 in rw (p.1, p.2) (acting_fails c.requires.ready_in c.requires.fine c.sort_of.ensures c.in-Plain.is c.execute.ensures c.in_err-did-in-Plain.was)
+
+pub returns-in_ok-did-in-Plain : goal.returns-in_ok-did-in-Plain
+returns-in_ok-did-in-Plain c = acting_does c.requires.ready_in c.requires.fine c.sort_of.ensures c.in-Plain.is c.execute.ensures c.in_ok-did-in-Plain.was

@@ -1,30 +1,19 @@
-use Rattle.statements.proofs.StepLaws.{sent_on, taken_noted, pending_below, sent_own, sent_plain, sent_left, names_fit, names_none}
-use Rattle.workspace.specs.Note.{pending_in}
+use Rattle.statements.proofs.StepLaws.{sent_on, pending_below, sent_own, sent_plain, sent_left, names_fit, names_none}
+use Rattle.workspace.specs.Note.{pending_in, taken}
 use Rattle.workspace.specs.Parts.{note_part}
-use mathlib.Core.Path.{sym, ◌∙◌}
-use borrow.Author.Rules.{rules}
 use Rattle.statements.proofs.steps.send.Goals as goal
 
-pub names-requires : goal.names-requires
-names-requires c = (c.requires.0, taken_noted c.args.did.note (pending_in (note_part c.args.ws.now)) (sym c.takes.ensures ∙ c.if-takes.true), c.requires.1)
-
 pub step-requires : goal.step-requires
-step-requires c = search (rules, names_fit)
+step-requires c = names_fit (taken (pending_in (note_part c.args.ws.now))) c.names-names.ensures c.requires.1
 
-pub returns-then-takes : goal.returns-then-takes
-returns-then-takes c = let w = c.args.ws.now in
-    sent_on w c.word-on.ensures
-    (sent_left c.args.site c.args.did _ (pending_in (note_part w)) c.takes.ensures c.piece-s.ensures _ c.left_note-left.ensures c.name_count.ensures c.names.ensures c.requires.1 c.if-takes.true (pending_below (note_part w)) c.step.ensures)
+pub returns-then-has_note : goal.returns-then-has_note
+returns-then-has_note c = sent_on c.args.ws.now c.word-on.ensures (sent_left c.args.site c.args.did _ (pending_in (note_part c.args.ws.now)) c.piece-s.ensures c.in-Nothing.is c.has_note.ensures c.if-has_note.true c.names-names.ensures c.requires.1 (pending_below (note_part c.args.ws.now)) c.step.ensures)
 
-pub returns-then-is_nothing : goal.returns-then-is_nothing
-returns-then-is_nothing c = let w = c.args.ws.now in
-    sent_on w c.word-on.ensures
-    (sent_plain c.args.site c.args.did _ (pending_in (note_part w)) c.takes.ensures c.piece-s.ensures c.if-takes.false c.is_nothing.ensures c.if-is_nothing.true c.plain_step.ensures)
+pub returns-else-has_note : goal.returns-else-has_note
+returns-else-has_note c = sent_on c.args.ws.now c.word-on.ensures (sent_plain c.args.site c.args.did _ (pending_in (note_part c.args.ws.now)) c.piece-s.ensures c.in-Nothing.is c.has_note.ensures c.if-has_note.false c.plain_step.ensures)
 
-pub step-requires-2 : goal.step-requires-2
-step-requires-2 c = search (rules, names_none)
+pub returns-in_default : goal.returns-in_default
+returns-in_default c = sent_on c.args.ws.now c.word-on.ensures (sent_own c.args.site c.args.did _ (pending_in (note_part c.args.ws.now)) c.piece-s.ensures _ c.in_default.not-Nothing c.own_note.ensures c.step-in_default.ensures)
 
-pub returns : goal.returns
-returns c = let w = c.args.ws.now in
-    sent_on w c.word-on.ensures
-    (sent_own c.args.site c.args.did _ (pending_in (note_part w)) c.takes.ensures c.piece-s.ensures _ c.if-takes.false c.own_note.ensures c.step-2.ensures)
+pub step-requires-in_default : goal.step-requires-in_default
+step-requires-in_default c = names_none _ c.args.ws.now c.own_note.ensures c.requires.0

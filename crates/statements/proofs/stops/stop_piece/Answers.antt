@@ -11,7 +11,7 @@ pub returns-in-Steps : goal.returns-in-Steps
 returns-in-Steps c = tells_steps c.in-Steps.is c.no_value-in-Steps.ensures c.plain-in-Steps.ensures
 
 pub returns-in-Unknown : goal.returns-in-Unknown
-returns-in-Unknown c = tells_unknown c.in-Unknown.is c.unknown.ensures
+returns-in-Unknown c = tells_unknown _ c.in-Unknown.is c.unknown.ensures
 
 pub returns-in-NoBlock : goal.returns-in-NoBlock
 returns-in-NoBlock c = tells_block c.in-NoBlock.is c.no_value-in-NoBlock.ensures c.plain-in-NoBlock.ensures

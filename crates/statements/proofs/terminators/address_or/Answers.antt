@@ -1,8 +1,8 @@
 use Rattle.statements.proofs.LeadLaws.{address_own, address_last}
 use Rattle.statements.proofs.terminators.address_or.Goals as goal
 
-pub returns-in-Known : goal.returns-in-Known
-returns-in-Known c = address_own c.in-Known.is
+pub returns-in-Some : goal.returns-in-Some
+returns-in-Some c = address_own c.in-Some.is
 
-pub returns-in-Nothing : goal.returns-in-Nothing
-returns-in-Nothing c = address_last c.in-Nothing.is c.last_address.ensures
+pub returns-in-None : goal.returns-in-None
+returns-in-None c = address_last c.in-None.is c.last_address.ensures

@@ -5,8 +5,8 @@ use Rattle.workspace.proofs.types.pointee_code.Goals as goal
 pub code-requires : goal.code-requires
 code-requires c = search (rules, pointed_coded c.args.pointee)
 
-pub returns-in-Of : goal.returns-in-Of
-returns-in-Of c = search (rules, pointed_code)
+pub returns-in-Some : goal.returns-in-Some
+returns-in-Some c = search (rules, pointed_code)
 
-pub returns-in-NoPointer : goal.returns-in-NoPointer
-returns-in-NoPointer c = search (rules, unpointed_code)
+pub returns-in-None : goal.returns-in-None
+returns-in-None c = search (rules, unpointed_code)

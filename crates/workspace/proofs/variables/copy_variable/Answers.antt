@@ -5,8 +5,8 @@ use Rattle.workspace.proofs.variables.copy_variable.Goals as goal
 pub put_variable-requires : goal.put_variable-requires
 put_variable-requires c = search (rules, put_room)
 
-pub returns-in-Set : goal.returns-in-Set
-returns-in-Set c = search (rules, puts_set)
+pub returns-in-Some : goal.returns-in-Some
+returns-in-Some c = search (rules, puts_set)
 
-pub returns-in-Unset : goal.returns-in-Unset
-returns-in-Unset c = search (rules, puts_unset)
+pub returns-in-None : goal.returns-in-None
+returns-in-None c = search (rules, puts_unset)

@@ -1,11 +1,6 @@
 use Rattle.workspace.proofs.CopyLaws.{Counting}
 use Rattle.workspace.specs.Parts.{frame_part}
-use Rattle.workspace.specs.Variables.{name_limit}
-use Prim.Native.Nat.{◌-◌}
 use Rattle.workspace.proofs.variables.variable_count.Given as goal
 
 abbrev pub invariant-loop-x : goal.invariant-loop-x
 invariant-loop-x l = Counting (frame_part l.ws) l.count l.x
-
-abbrev pub decreases-loop-x : goal.decreases-loop-x
-decreases-loop-x l = name_limit - l.x

@@ -1,0 +1,10 @@
+use Rattle.std.proofs.Common.{length}
+use Rattle.index.specs.Texts.{text_count}
+use Rattle.text.proofs.Listing.{StepsLeft}
+use Rattle.listing.proofs.run.Printer.steps.Given as goal
+
+abbrev pub invariant-loop-rest : goal.invariant-loop-rest
+invariant-loop-rest g l = StepsLeft (text_count l.names.body.now) l.rest
+
+abbrev pub decreases-loop-rest : goal.decreases-loop-rest
+decreases-loop-rest g l = length l.rest

@@ -1,7 +1,0 @@
-use Rattle.statements.proofs.stops.number_in.Goals as goal
-
-pub returns-then-reason : goal.returns-then-reason
-returns-then-reason c = rw c.if-reason.true
-
-pub returns-else-reason : goal.returns-else-reason
-returns-else-reason c = rw c.if-reason.false

@@ -1,0 +1,5 @@
+use Rattle.text.proofs.PutLaws.{pushed_then}
+use Rattle.text.proofs.line.Line.refusal.Goals as goal
+
+pub returns : goal.returns
+returns c = pushed_then c.text.ensures (pushed_then c.decimal.ensures c.text-2.ensures)

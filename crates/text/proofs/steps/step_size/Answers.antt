@@ -1,7 +1,0 @@
-use Rattle.text.specs.Read.{step_size}
-use borrow.Author.Rules.{rules}
-use Rattle.text.proofs.steps.step_size.Goals as goal
-
-pub returns : goal.returns
-unfolding step_size
-returns c = search rules

@@ -1,6 +1,0 @@
-use Rattle.std.proofs.Common.{ℕ, sym}
-use Rattle.std.proofs.Math.ListN.{length-replicate}
-use Rattle.vectors.proofs.store.room.Goals as goal
-
-pub returns : goal.returns
-returns c = sym (length-replicate {A = ℕ} 131072 0)

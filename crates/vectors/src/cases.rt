@@ -1,0 +1,100 @@
+// The cases of the file. What a case lends comes in four sorts: the three files, and the record; the last bytes of each sort stay, since the
+// next case follows from them.
+use crate::coding::{LONGEST, follow};
+use anyhow::ensure;
+use bytes::Buf;
+use std::alloc::Global;
+
+#[derive(Drop)]
+pub struct Store {
+    pub routine: Vec<u8>,
+    pub world: Vec<u8>,
+    pub call: Vec<u8>,
+    pub record: Vec<u8>,
+}
+
+impl Store {
+    pub fn new(alloc: Global) -> Self {
+        Self {
+            routine: Vec::new(alloc),
+            world: Vec::new(alloc),
+            call: Vec::new(alloc),
+            record: Vec::new(alloc),
+        }
+    }
+}
+
+// A run with buffers of two lengths, and the number that it answers. Where that is 0 its record is in the store.
+#[derive(Clone, Copy)]
+pub struct Run {
+    pub record: usize,
+    pub workspace: usize,
+    pub number: u8,
+}
+
+// The value of a constant with a workspace of a length, and the answer.
+#[derive(Clone, Copy)]
+pub struct Constant {
+    pub node: u32,
+    pub workspace: usize,
+    pub refusal: u8,
+    pub known: bool,
+    pub signed: bool,
+    pub bits: u32,
+    pub number: u64,
+}
+
+#[derive(Clone, Copy)]
+pub enum Case {
+    Run(Run),
+    Constant(Constant),
+}
+
+// The length of a lent buffer.
+fn room(case: &mut &[u8]) -> anyhow::Result<usize> {
+    let size = case.try_get_u32_le()? as usize;
+    ensure!(size <= LONGEST, "a buffer is too long");
+    Ok(size)
+}
+
+// routine, world, call, record buffer length u32, workspace length u32, number u8, record
+fn take_run(case: &mut &[u8], store: &mut Store) -> anyhow::Result<Run> {
+    follow(case, &mut store.routine)?;
+    follow(case, &mut store.world)?;
+    follow(case, &mut store.call)?;
+    let run = Run {
+        record: room(case)?,
+        workspace: room(case)?,
+        number: case.try_get_u8()?,
+    };
+    // Only number 0 has a record; else the last one stays.
+    if run.number == 0 {
+        follow(case, &mut store.record)?;
+    }
+    Ok(run)
+}
+
+// routine, node u32, workspace length u32, refusal u8, known u8, signed u8, bits u32, number u64
+fn take_constant(case: &mut &[u8], store: &mut Store) -> anyhow::Result<Constant> {
+    follow(case, &mut store.routine)?;
+    Ok(Constant {
+        node: case.try_get_u32_le()?,
+        workspace: room(case)?,
+        refusal: case.try_get_u8()?,
+        known: case.try_get_u8()? == 1,
+        signed: case.try_get_u8()? == 1,
+        bits: case.try_get_u32_le()?,
+        number: case.try_get_u64_le()?,
+    })
+}
+
+// A case, and the files that it lends put into the store.
+pub fn take(mut case: &[u8], store: &mut Store) -> anyhow::Result<Case> {
+    let taken = match case.try_get_u8()? {
+        0 => Case::Run(take_run(&mut case, store)?),
+        1 => Case::Constant(take_constant(&mut case, store)?),
+        kind => anyhow::bail!("no case is of kind {kind}"),
+    };
+    ensure!(!case.has_remaining(), "a case goes on after its end");
+    Ok(taken)
+}
