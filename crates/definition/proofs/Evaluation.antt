@@ -11,7 +11,9 @@ use Rattle.value.specs.declared.ArithmeticError.{ArithmeticError}
 use Rattle.value.specs.declared.ArithmeticError.TheVariants.{DivisionByZero}
 use Rattle.value.specs.Operators.{operator_of, binary_of}
 use Rattle.memory.specs.Overlay.{byte_or}
-use Rattle.files.specs.Program.{Kind, Constant, Var, Register, StringLiteral, FunctionName, ConditionTrue, ConditionFalse, ConstantCondition, Cast, Deref, AddressOf, Ternary, Binary, Assign, Call, Intrinsic, Return, StructInit, Field, Plain, Node, Tree, tree, Trees, nil, cons}
+use Rattle.files.specs.Program.{Node, Tree, tree, Trees, nil, cons}
+use Rattle.files.specs.declared.kinds.Kind.{Kind}
+use Rattle.files.specs.declared.kinds.Kind.TheVariants.{Constant, Var, Register, StringLiteral, FunctionName, ConditionTrue, ConditionFalse, ConstantCondition, Cast, Deref, AddressOf, Ternary, Binary, Assign, Call, Intrinsic, Return, StructInit, Field, Plain}
 use Rattle.definition.specs.Question.{Asked, Question, Answer}
 use Rattle.definition.specs.Act.{Act, done, fail, ask, act, Op, peek_op, poke_op, get_op, set_op, pending_op, leave_op, spend_op, emit_op, Reply, ◌>>=◌, Why}
 use Rattle.definition.specs.Memory.{gather, load, pokes, store_val}

@@ -10,7 +10,8 @@ use lib.ListN.{length, length-append}
 use lib.Dec.{ltb}
 use Rattle.value.specs.declared.Val.{Val}
 use Rattle.layout.specs.Text.{text}
-use Rattle.files.specs.Program.{Return, Statement, Case, case_of, Terminator, returns, goto, branch, switch, Block, Program, Tree}
+use Rattle.files.specs.Program.{Statement, Case, case_of, Terminator, returns, goto, branch, switch, Block, Program, Tree}
+use Rattle.files.specs.declared.kinds.Kind.TheVariants.{Return}
 use Rattle.definition.specs.Question.{World, Entry}
 use Rattle.definition.specs.Act.{Op, peek_op, poke_op, get_op, set_op, pending_op, leave_op, spend_op, emit_op, Act, done, pending, emit, End, gave, stopped, try, ◌>>=◌, Why, Step, Pending}
 use Rattle.definition.specs.State.{State, next, leaving, run}

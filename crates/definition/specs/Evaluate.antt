@@ -9,7 +9,9 @@ use Rattle.value.specs.Operators.{operator_of, binary_of}
 use Rattle.spelling.specs.Spelling.{type_of, ends_star, before_star}
 use Rattle.definition.specs.Question.{address_of, size_of}
 use Rattle.definition.specs.Act.{Act, done, fail, ask, get, set, pending, leave, ◌>>=◌, ◌>>◌, struct_to, unknown_address, no_width, store_to, by_zero, Note, no_note, fields_written, value_written, result_unknown, Pending}
-use Rattle.files.specs.Program.{Kind, Constant, Var, Register, StringLiteral, FunctionName, ConditionTrue, ConditionFalse, ConstantCondition, Cast, Deref, AddressOf, Ternary, Binary, Assign, Call, Intrinsic, Return, StructInit, Field, Plain, kind_numbered, Node, Tree, tree, Trees, nil, cons}
+use Rattle.files.specs.Program.{kind_numbered, Node, Tree, tree, Trees, nil, cons}
+use Rattle.files.specs.declared.kinds.Kind.{Kind}
+use Rattle.files.specs.declared.kinds.Kind.TheVariants.{Constant, Var, Register, StringLiteral, FunctionName, ConditionTrue, ConditionFalse, ConstantCondition, Cast, Deref, AddressOf, Ternary, Binary, Assign, Call, Intrinsic, Return, StructInit, Field, Plain}
 use Rattle.definition.specs.Memory.{load, store_val}
 use Rattle.definition.specs.Term.{Term, term, Terms, no_terms, more_terms, node, eval, kids, is, nothing, kid, rest, count, evals}
 

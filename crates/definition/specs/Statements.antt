@@ -5,7 +5,8 @@ use Rattle.spelling.specs.Spelling.{type_of}
 use Rattle.value.specs.Value.{cast_to}
 use Rattle.layout.specs.Text.{text, same}
 use Rattle.definition.specs.Act.{Act, done, pending, leave, emit, End, gave, stopped, try, ◌>>=◌, Why, Note, no_note, fields_written, value_written, result_unknown, not_followed, Pending}
-use Rattle.files.specs.Program.{Constant, Intrinsic, Return, Statement, Program}
+use Rattle.files.specs.Program.{Statement, Program}
+use Rattle.files.specs.declared.kinds.Kind.TheVariants.{Constant, Intrinsic, Return}
 use Rattle.definition.specs.Term.{Term, Terms, no_terms, more_terms, node, eval, kids, is, kid, count}
 use Rattle.definition.specs.Evaluate.{Env, Did, did, look, execute}
 

@@ -3,7 +3,8 @@ use Rattle.std.specs.Prelude.{Bool, true, List, [], ◌∷◌, ℕ, zero, suc, e
 use Rattle.value.specs.declared.Val.{Val}
 use Rattle.value.specs.Value.{type, unknown_val}
 use Rattle.definition.specs.Act.{Act, done, ◌>>=◌}
-use Rattle.files.specs.Program.{Kind, number_of, Node}
+use Rattle.files.specs.Program.{number_of, Node}
+use Rattle.files.specs.declared.kinds.Kind.{Kind}
 
 mutual
   pub data Term : Type 0 where

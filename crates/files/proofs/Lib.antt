@@ -5,7 +5,7 @@ pub mod ListedLaws
 pub mod TableLaws
 pub mod NameLaws
 pub mod HeadLaws
-pub mod ReferenceLaws
+pub mod KindLaws
 pub mod TreeLaws
 pub mod BlockLaws
 pub mod WorldLaws

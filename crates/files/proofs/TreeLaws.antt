@@ -6,7 +6,7 @@ use Prim.Native.Nat.{ℕ, zero, suc, ◌+◌, ◌-◌, ◌*◌, ◌≤◌, ◌<�
 use native.Mathlib.Nat.{not-suc-le-zero}
 use native.Mathlib.Omega.{arith}
 use borrow.Author.Tests.{le-leb, lt-leb, leb-true, leb-false, not-true, not-false}
-use lib.Dec.{leb}
+use lib.Dec.{leb, eqb}
 use lib.ListN.{length}
 use Rattle.files.specs.Nodes.{kind_of, span_of, node_ok, placed_ok, count_ok, trees_from, trees}
 use Rattle.files.proofs.BoolLaws.{each_true}
@@ -60,6 +60,20 @@ module _ (b : List ℕ) where
       (λ p q. let r = node_placed b depth parent n e q in more f (depth - 1) (kind_of b n) (n + 1) (n + span_of b n) 0 (omega arith))
       (λ p q. let r = node_placed b depth parent n e q in more f depth parent (n + span_of b n) e (c + 1) (omega (arith, leb-false e n p)))
       ∙ sym (one_turn f depth parent n e c)
+
+  -- of a parent it is asked no more than whether it is a StructInit
+  same_parent_from : (f depth p q n e c : ℕ) → eqb p 17 ≡ eqb q 17 → trees_from f b depth p n e c ≡ trees_from f b depth q n e c
+  unfolding trees_from
+  same_parent_from zero depth p q n e c h = refl
+  same_parent_from (suc f) depth p q n e c h =
+      let placed : node_ok b depth p n e ≡ node_ok b depth q n e = rw h in
+      one_turn f depth p n e c
+      ∙ ap₂ (λ (y : Bool) (r : ℕ). turn (leb e n) y (count_ok (kind_of b n) (trees_from f b (depth - 1) (kind_of b n) (n + 1) (n + span_of b n) 0)) c r) placed (same_parent_from f depth p q (n + span_of b n) e (c + 1) h)
+      ∙ sym (one_turn f depth q n e c)
+
+  pub same_parent : (depth p q n e c : ℕ) → eqb p 17 ≡ eqb q 17 → trees b depth p n e c ≡ trees b depth q n e c
+  unfolding trees
+  same_parent depth p q n e c h = same_parent_from (suc (length b)) depth p q n e c h
 
 -- at a place of a loop: the answer a is what the trees from there on give
 module _ (b : List ℕ) (depth parent n e c a : ℕ) (h : a ≡ trees b depth parent n e c) where

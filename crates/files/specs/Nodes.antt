@@ -32,7 +32,7 @@ pub record Rule : Type 0 where
   pub few : ℕ
   pub many : ℕ
 
-abbrev rule : ℕ → ℕ → ℕ → ℕ → ℕ → ℕ → ℕ → Rule
+abbrev pub rule : ℕ → ℕ → ℕ → ℕ → ℕ → ℕ → ℕ → Rule
 rule f r n w v a m = record { flag = f; ref = r; narrow = n; wide = w; value = v; few = a; many = m }
 
 abbrev any32 : ℕ

@@ -2,6 +2,8 @@
 -- `program_of` is total: what it gives for a file that is not accepted does not matter. Assumes nothing.
 use Rattle.std.specs.Prelude.{true, false, List, [], ◌∷◌, ℕ, zero, suc, ◌+◌, ◌-◌, ◌*◌, ◌/◌, length, get_or, ltb, eqb, Option, None, Some}
 use Rattle.layout.specs.Number.{number_at}
+use Rattle.files.specs.declared.kinds.Kind.{Kind}
+use Rattle.files.specs.declared.kinds.Kind.TheVariants.{Constant, Var, Register, StringLiteral, FunctionName, ConditionTrue, ConditionFalse, ConstantCondition, Cast, Deref, AddressOf, Ternary, Binary, Assign, Call, Intrinsic, Return, StructInit, Field, Plain}
 use Rattle.files.specs.FileTable.{body}
 use Rattle.files.specs.Nodes.{kind_of, flag_of, ref_of, width_of, span_of, value_of}
 use Rattle.files.specs.Blocks.{cases_of}
@@ -10,10 +12,6 @@ use Rattle.layout.specs.Format.{number, counted, whole}
 -- ---- trees
 
 -- the kinds of nodes, in the order of their numbers
-pub data Kind : Type 0 where
-  Constant Var Register StringLiteral FunctionName ConditionTrue ConditionFalse ConstantCondition : Kind
-  Cast Deref AddressOf Ternary Binary Assign Call Intrinsic Return StructInit Field Plain : Kind
-
 abbrev pub kinds : List Kind
 kinds =
     Constant ∷ Var ∷ Register ∷ StringLiteral ∷ FunctionName ∷ ConditionTrue ∷ ConditionFalse ∷ ConstantCondition

@@ -4,6 +4,7 @@
 pub mod blocks;
 pub mod call;
 pub mod head;
+pub mod kinds;
 pub mod names;
 pub mod nodes;
 pub mod refusal;

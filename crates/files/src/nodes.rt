@@ -1,43 +1,36 @@
 // Nodes: the fields of one, and what its kind lets them be.
-ghost use Rattle.std.specs.Prelude.{◌≡◌, ◌+◌, ◌*◌, ◌<◌, ◌≤◌, ◌/◌, length, ltb};
-ghost use Rattle.files.specs.Nodes.{kind_of, flag_of, ref_of, width_of, span_of, value_of, rule_of, ref_below, field_ok, fields_ok, root_ok};
-ghost use Rattle.files.specs.Rules.{row};
+ghost use Rattle.std.specs.Prelude.{◌≡◌, ◌==◌, ◌+◌, ◌*◌, ◌<◌, ◌≤◌, ◌/◌, length, ltb};
+ghost use Rattle.files.specs.Nodes.{kind_of, flag_of, ref_of, width_of, span_of, value_of, ref_below, field_ok, fields_ok, root_ok};
+ghost use Rattle.files.specs.Program.{kind_numbered, number_of};
+ghost use Rattle.files.specs.Rules.{refers_number};
+
+use crate::kinds::{Kind, Refers, Rule};
 
 // The bytes of a node.
 pub const SIZE: usize = 20;
 
-// How many kinds there are, and those that are tested for.
-pub const KINDS: u8 = 20;
-
-pub const CONSTANT: u8 = 0;
-
-pub const VAR: u8 = 1;
-
-pub const FUNCTION_NAME: u8 = 4;
-
-pub const CAST: u8 = 8;
-
-pub const DEREF: u8 = 9;
-
-pub const ADDRESS_OF: u8 = 10;
-
-pub const ASSIGN: u8 = 13;
-
-pub const CALL: u8 = 14;
-
-pub const INTRINSIC: u8 = 15;
-
-pub const RETURN: u8 = 16;
-
-pub const STRUCT_INIT: u8 = 17;
-
-pub const FIELD: u8 = 18;
-
-pub fn kind(nodes: &[u8], n: usize) -> u8
+// The byte of a node's kind.
+pub fn kind_number(nodes: &[u8], n: usize) -> u8
     requires { n * 20 + 20 ≤ length nodes.now }
     ensures { result ≡ kind_of nodes.now n }
 {
     nodes[n * SIZE]
+}
+
+// Whether a node is of a kind.
+pub fn is(nodes: &[u8], n: usize, kind: Kind) -> bool
+    requires { n * 20 + 20 ≤ length nodes.now }
+    ensures { result ≡ (kind_of nodes.now n == number_of kind) }
+{
+    kind_number(nodes, n) == u8::from(kind)
+}
+
+// The kind of a node; a plain statement where its number is none's.
+pub fn kind(nodes: &[u8], n: usize) -> Kind
+    requires { n * 20 + 20 ≤ length nodes.now }
+    ensures { result ≡ kind_numbered (kind_of nodes.now n) }
+{
+    Kind::of(kind_number(nodes, n)).unwrap_or(Kind::Plain)
 }
 
 pub fn flag(nodes: &[u8], n: usize) -> u8
@@ -76,72 +69,12 @@ pub fn value(nodes: &[u8], n: usize) -> u64
     layout::get::<8>(nodes, n * SIZE + 12)
 }
 
-// What a kind lets a node be: the flag's most, what the reference is, the width's least and most, the value's most, the least and the most children.
-#[derive(Clone, Copy)]
-pub struct Rule(
-    pub u8,
-    pub u8,
-    pub u32,
-    pub u32,
-    pub u64,
-    pub usize,
-    pub usize,
-);
-
-// What a reference is: nothing, a name, a type, any number.
-const NONE: u8 = 0;
-
-const NAME: u8 = 1;
-
-const TYPE: u8 = 2;
-
-const INDEX: u8 = 3;
-
-const ANY32: u32 = 0xffff_ffff;
-
-const ANY64: u64 = 0xffff_ffff_ffff_ffff;
-
-const MANY: usize = 0xffff_ffff;
-
-pub fn rule_of(kind: u8) -> Rule
-    ensures { result ≡ row (rule_of kind) }
+// Whether a reference is below its bound, by an answer for each thing that a reference can be: a branch would be guessed wrong where kinds alternate.
+fn is_below(refers: Refers, r: usize, names: usize, types: usize) -> bool
+    ensures { result ≡ ltb r (ref_below (refers_number refers) names types) }
 {
-    match kind {
-        0 => Rule(0, NONE, 1, 8, ANY64, 0, 0), // Constant
-        1 => Rule(0, NAME, 0, 0, 0, 0, 0), // Var
-        2 => Rule(255, INDEX, 0, ANY32, ANY64, 0, 0), // Register
-        3 => Rule(0, NONE, 0, 0, 0, 0, 0), // StringLiteral
-        4 => Rule(0, NAME, 0, 0, ANY64, 0, 0), // FunctionName
-        5 => Rule(0, NONE, 0, 0, 0, 0, 0), // ConditionTrue
-        6 => Rule(0, NONE, 0, 0, 0, 0, 0), // ConditionFalse
-        7 => Rule(1, NONE, 0, 0, 0, 0, 0), // ConstantCondition
-        8 => Rule(0, TYPE, 0, 0, 0, 1, 1), // Cast
-        9 => Rule(0, NONE, 0, 0, 0, 1, 1), // Deref
-        10 => Rule(0, NONE, 0, 0, 0, 1, 1), // AddressOf
-        11 => Rule(0, NONE, 0, 0, 0, 3, 3), // Ternary
-        12 => Rule(17, NONE, 0, 0, 0, 2, 2), // Binary
-        13 => Rule(0, NONE, 0, 0, 0, 2, 2), // Assign
-        14 => Rule(0, NONE, 0, 0, 0, 1, 17), // Call
-        15 => Rule(0, NAME, 0, 0, 0, 0, MANY), // Intrinsic
-        16 => Rule(0, NONE, 0, 0, 0, 0, 1), // Return
-        17 => Rule(0, NONE, 0, 0, 0, 0, MANY), // StructInit
-        18 => Rule(0, TYPE, 0, 0, ANY64, 1, 1), // its field
-        19 => Rule(0, NONE, 0, 0, 0, 0, 0), // a plain statement
-        _ => Rule(0, NONE, 0, 0, 0, 0, 0),
-    }
-}
-
-// Whether a reference is below its bound, by a bit for each thing that a reference can be: a branch would be guessed wrong where kinds alternate.
-fn is_below(refers: u8, r: usize, names: usize, types: usize) -> bool
-    requires { refers < 4 }
-    ensures { result ≡ ltb r (ref_below refers names types) }
-{
-    let none = (r < 1) as u64;
-    let name = (r < names) as u64;
-    let ty = (r < types) as u64;
-    let index = (r < 65536) as u64;
-    let bits = none + name * 2 + ty * 4 + index * 8;
-    (bits >> refers) % 2 == 1
+    let below = [r < 1, r < names, r < types, r < 65536];
+    below[refers as usize]
 }
 
 // Whether node n has a kind, and each field is what the kind lets it be.
@@ -149,17 +82,16 @@ fn check_node(b: &[u8], n: usize, names: usize, types: usize) -> bool
     requires { n * 20 + 20 ≤ length b.now }
     ensures { result ≡ field_ok b.now names types n }
 {
-    let k = kind(b, n);
-    if KINDS <= k {
+    let Some(kind) = Kind::of(kind_number(b, n)) else {
         return false;
-    }
-    let Rule(most, refers, narrow, wide, top, _, _) = rule_of(k);
+    };
+    let rule = Rule::of(kind);
     let f = flag(b, n);
     let r = reference(b, n);
     let w = width(b, n);
     let v = value(b, n);
-    let below = is_below(refers, r, names, types);
-    (f <= most) & below & (narrow <= w) & (w <= wide) & (v <= top)
+    let below = is_below(rule.refers, r, names, types);
+    (f <= rule.flag) & below & (rule.narrow <= w) & (w <= rule.wide) & (v <= rule.value)
 }
 
 // Whether each whole node is as its kind lets it be.
@@ -182,5 +114,5 @@ pub fn is_root(b: &[u8], n: usize) -> bool
     if b.len() / SIZE <= n {
         return false;
     }
-    kind(b, n) != FIELD
+    !is(b, n, Kind::Field)
 }

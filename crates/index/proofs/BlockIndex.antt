@@ -8,7 +8,7 @@ use lib.ListN.{length}
 use Rattle.layout.specs.Number.{number_at, put_number}
 use Rattle.layout.proofs.NumberLaws.{number_at_lt}
 use Rattle.index.specs.Places.{place_from, block_size}
-use Rattle.index.specs.Blocks.{blocks_room, block_start, first_from, block_first, BlockInside, Blocks, BlocksIndexed, Placed}
+use Rattle.index.specs.Blocks.{blocks_room, block_start, first_from, block_first, BlockInside, Blocks, Placed}
 use Rattle.index.proofs.PlaceLaws.{place_next}
 use Rattle.index.proofs.EntryLaws.{Entries, length_put, entries_kept, entries_more}
 use Rattle.index.proofs.BlockPlaces.{first_suc, block_before}
@@ -61,16 +61,6 @@ module _ {b part : List ℕ} {start first count : ℕ} (all : Blocks b) (so : Fi
             (entries_more part' (λ k. k * 4 + 2) (λ k x. x ≡ block_first b k) count firsts' (count * 4 + 2) (λ k g. omega arith) first refl (omega (arith, i, so.few, so.room, all.short, l'))
             (omega (arith, so.dealt, all.dealt count (subst (λ (j : ℕ). j < length b) so.here h))) so.dealt);
       }
-
-  -- the end
-  pub blocks_filled : length b ≤ start → BlocksIndexed b part count
-  blocks_filled h = record {
-    blocks = all;
-    full = omega (arith, so.here, so.most);
-    room = omega (arith, so.few, so.most, all.short, so.room);
-    starts = so.starts;
-    firsts = so.firsts;
-  }
 
 pub blocks_none : {b part : List ℕ} → blocks_room ≤ length part → Filling b part 0 0 0
 unfolding block_start block_first place_from first_from

@@ -99,17 +99,6 @@ module _ {b part : List ℕ} {at count : ℕ} (all : Regions b) (so : Filling b 
         entries = (marked h e).1;
       }
 
-  pub regions_filled : length b ≤ at → RegionsIndexed b part ((count + 4 - 1) / 4)
-  regions_filled h =
-      let n : count ≡ region_count b = is_end all so.here so.most h in
-      let q : (count + 4 - 1) / 4 ≡ (count + 3) / 4 = omega arith in
-      record {
-        regions = all;
-        number = q ∙ ap (λ (m : ℕ). (m + 3) / 4) n;
-        room = omega (arith, so.few, so.near, all.short, so.room);
-        at = rw q so.entries;
-      }
-
 -- ---- an entry of the index
 
 module _ {b part : List ℕ} {n : ℕ} (all : RegionsIndexed b part n) where
@@ -120,20 +109,11 @@ module _ {b part : List ℕ} {n : ℕ} (all : RegionsIndexed b part n) where
     entry_here : at ≡ region_place b (k * 4)
     entry_here = e ∙ all.at k h
 
-    pub entry_inside : RegionInside b at
-    entry_inside = in_body all.regions entry_here (entry_region h)
-
     -- the regions before one that starts by the address end by it
     pub entry_clear : {a s : ℕ} → s ≡ number_at b at 8 → s ≤ a → Clear b (k * 4) a
     entry_clear {a} {s} g l = record {
       each = λ j m. omega (arith, ends_before b all.regions j (k * 4) m (entry_region h), g, ap (λ (i : ℕ). number_at b i 8) entry_here, l);
     }
-
-    pub entry_from : {a : ℕ} → Clear b (k * 4) a → From b a at
-    entry_from clear = record { number = k * 4; here = entry_here; most = omega (arith, entry_region h); clear = clear }
-
-pub clear_none : {b : List ℕ} {a : ℕ} → Clear b (0 * 4) a
-clear_none = record { each = λ k h. absurd (omega arith) }
 
 -- ---- from region to region
 
@@ -146,17 +126,11 @@ module _ {b : List ℕ} (all : Regions b) where
       go j l false p = let q : j ≡ k = omega (arith, ltb-false j k p) in rw q h
 
   module _ {a i : ℕ} (so : From b a i) where
-    pub from_inside : i < length b → RegionInside b i
-    from_inside h = in_body all so.here (is_region all so.here h)
-
     module _ {s : ℕ} (h : i < length b) (e : s ≡ number_at b i 8) where
       pub before_region : a < s → Located b a None
       before_region l = (byte_none b all so.clear (λ g. omega (arith, e, ap (λ (j : ℕ). number_at b j 8) so.here, l)))
 
       module _ {n : ℕ} (low : s ≤ a) (g : n ≡ number_at b (i + 8) 4) where
-        pub in_region : a - s < n → Located b a (Some i)
-        in_region l = record { number = so.number; here = so.here; most = is_region all so.here h; low = omega (arith, e, low); high = omega (arith, e, g, low, l) }
-
         pub past_region : n ≤ a - s → From b a (i + n + 12)
         past_region l =
             let q : i + region_size b i ≡ i + n + 12 = omega (arith, g) in

@@ -1,9 +1,9 @@
 -- The bytes from an address on, region by region. Assumes nothing.
 use mathlib.Core.Path.{◌≡◌, sym, ap, ap₂, subst, ◌∙◌}
 use mathlib.Core.List.{List, ◌++◌, append_assoc, append-nil}
-use Rattle.std.specs.Prelude.{Option, None, Some, IfSome}
+use Rattle.std.specs.Prelude.{Option, None, Some}
 use Prim.Native.Nat.{ℕ, suc, ◌+◌, ◌-◌, ◌*◌, ◌%◌, ◌^◌, ◌≤◌, ◌<◌, min}
-use native.Mathlib.Nat.{pow-le-pow_right, add-zero, sub-zero}
+use native.Mathlib.Nat.{pow-le-pow_right}
 use native.Mathlib.Omega.{arith}
 use mir.Syntax.{w8}
 use mir.Val.{Fits}
@@ -18,7 +18,7 @@ use Rattle.layout.proofs.StoreLaws.{each_byte}
 use Rattle.files.specs.World.{region, byte_at, bytes_from}
 use Rattle.memory.specs.declared.Image.{Image}
 use Rattle.memory.proofs.LoadLaws.{shifted}
-use Rattle.index.specs.Regions.{start_at, end_at, RegionInside, LengthOf, Regions, RegionsIndexed, Numbered, Holding, Located, Gathered, ReadFrom}
+use Rattle.index.specs.Regions.{start_at, end_at, RegionInside, LengthOf, Regions, RegionsIndexed, Holding, Located, Gathered, ReadFrom}
 use Rattle.index.proofs.NumberBytes.{le_join, join_small, le_read}
 use Rattle.index.proofs.RegionBytes.{byte_none, byte_held, bytes_none, bytes_run}
 use Rattle.index.proofs.RegionIndex.{in_body}
@@ -94,13 +94,6 @@ module _ {b : List ℕ} {a n i : ℕ} {image : Image} (all : Regions b) (at : Ho
 
 -- ---- the whole read
 
-pub gathered_none : {b : List ℕ} {a n : ℕ} → Gathered b a n (record { count = 0; number = 0 })
-gathered_none {b} {a} {n} = record {
-  bytes = ap₂ (bytes_from (whole region b)) (sym (sub-zero n)) (sym (add-zero a));
-  small = lit< tt;
-  most = omega arith;
-}
-
 module _ {b : List ℕ} {a n : ℕ} {image : Image} (so : Gathered b a n image) where
   -- as many as were asked for
   pub read_all : image.count ≡ n → ReadFrom b a n image
@@ -135,27 +128,10 @@ pub record Reading (b : List ℕ) (a n : ℕ) (image : Image) (next : Option ℕ
   pub located : Located b (a + image.count) next
   pub low : image.count < 8
 
-pub reading_none : {b : List ℕ} {a n : ℕ} {next : Option ℕ} → Located b a next → Reading b a n (record { count = 0; number = 0 }) next
-reading_none {b} {a} {n} {next} h = record { gathered = gathered_none; located = subst (λ (x : ℕ). Located b x next) (sym (add-zero a)) h; low = lit< tt }
-
-pub reading_held : {b : List ℕ} {a n at : ℕ} {image : Image} {next : Option ℕ} → Reading b a n image next → next ≡ Some at → Holding b (a + image.count) at
-reading_held {b} {a} {n} {at} {image} so e = subst (Located b (a + image.count)) e so.located
-
-pub reading_numbered : {b : List ℕ} {a n at : ℕ} {image : Image} {next : Option ℕ} → Reading b a n image next → next ≡ Some at → Numbered b at
-reading_numbered so e = let r = reading_held so e in record { number = r.number; here = r.here; most = r.most }
-
 pub reading_end : {b : List ℕ} {a n : ℕ} {image : Image} {next : Option ℕ} → Reading b a n image next → next ≡ None → ReadFrom b a n image
 reading_end {b} {a} {n} {image} so e = read_end so.gathered (subst (Located b (a + image.count)) e so.located)
-
-pub reading_more : {b : List ℕ} {a n x : ℕ} {image : Image} {next : Option ℕ} → n ≤ 8 → Gathered b a n image → (image.count ≡ n → ⊥) → ((image.count ≡ n → ⊥) → a + image.count ≡ x)
-    → Located b x next → Reading b a n image next
-reading_more {b} {a} {n} {x} {image} {next} few so z e h = record { gathered = so; located = subst (λ (y : ℕ). Located b y next) (sym (e z)) h; low = omega (arith, so.most, z) }
 
 -- what is left of the body from a region on, if there is one
 abbrev pub rest_of : List ℕ → Option ℕ → ℕ
 rest_of b None = 0
 rest_of b (Some i) = suc (length b - i)
-
-pub rest_less : (b : List ℕ) (at : ℕ) (next next' : Option ℕ) → next ≡ Some at → at < length b → IfSome next' (λ i. at < i) → rest_of b next' < rest_of b next
-rest_less b at next None e h l = rw e (omega arith)
-rest_less b at next (Some i) e h l = rw e (omega arith)

@@ -1,6 +1,6 @@
 -- How the index of texts grows, and what it tells. Assumes nothing.
 use mathlib.Core.Path.{◌≡◌, refl, sym, ap, subst, ◌∙◌}
-use mathlib.Core.List.{List, []}
+use mathlib.Core.List.{List}
 use Prim.Native.Nat.{ℕ, ◌+◌, ◌-◌, ◌*◌, ◌≤◌, ◌<◌}
 use native.Mathlib.Nat.{le_antisymm, lt_of_not-le, le_of_suc-le-suc}
 use native.Mathlib.Omega.{arith}
@@ -10,7 +10,6 @@ use lib.ListN.{length, take, drop, get_or, length-drop}
 use lib.Seq.{length-take-le}
 use Rattle.layout.specs.Number.{number_at, put_number}
 use Rattle.layout.proofs.StoreLaws.{each_byte}
-use Rattle.files.specs.Program.{texts_in}
 use Rattle.index.specs.Places.{place_from, text_size}
 use Rattle.index.specs.Texts.{texts_room, text_count, Texts, TextsIndexed, TextAt}
 use Rattle.index.proofs.PlaceLaws.{place_order, place_mono, place_strict, place_next}
@@ -27,9 +26,6 @@ pub record Filling (b part : List ℕ) (at count : ℕ) : Type 0 where
 module _ {b part : List ℕ} {at count : ℕ} (all : Texts b) (so : Filling b part at count) where
   pub more_texts : at < length b → count < text_count b
   more_texts h = place_order (text_size b) 0 count (text_count b) (omega (arith, so.here, all.full))
-
-  pub text_room : at < length b → count * 2 + 2 ≤ length part
-  text_room h = omega (arith, more_texts h, all.few, so.room)
 
   -- a turn
   pub text_filled : {part' : List ℕ} {n : ℕ} → at < length b → part' ≡ put_number part (count * 2) 2 at → n ≡ number_at b at 1
@@ -60,9 +56,6 @@ texts_none room = record { here = refl; most = omega arith; room = room; entries
 module _ {b part : List ℕ} {k at : ℕ} (all : TextsIndexed b part) (h : k < text_count b) (e : at ≡ number_at part (k * 2) 2) where
   pub text_there : at + (number_at b at 1 + 1) ≤ length b
   text_there = subst (λ (i : ℕ). i + text_size b i ≤ length b) (sym (e ∙ all.at k h)) (text_inside b all.texts k h)
-
-  pub text_found : {t : List ℕ} → TextAt b at t → t ≡ get_or (texts_in b) k []
-  text_found g = g.is k all.texts h (e ∙ all.at k h)
 
 pub text_read : {b : List ℕ} {at n : ℕ} → at + text_size b at ≤ length b → ((i : ℕ) → Fits w8 (get_or b i 0)) → n ≡ number_at b at 1 → TextAt b at (take (at + 1 + n - (at + 1)) (drop (at + 1) b))
 text_read {b} {at} {n} inside bytes g =

@@ -7,7 +7,8 @@ use lib.Dec.{eqb}
 use borrow.Author.Tests.{eq-eqb, ne_eqb}
 use Rattle.value.specs.declared.Val.{Val}
 use Rattle.files.specs.Nodes.{kind_of}
-use Rattle.files.specs.Program.{Tree, tree, Trees, node_of, Var, Deref, Assign, StructInit}
+use Rattle.files.specs.Program.{Tree, tree, Trees, node_of}
+use Rattle.files.specs.declared.kinds.Kind.TheVariants.{Var, Deref, Assign, StructInit}
 use Rattle.files.specs.Spells.{next}
 use Rattle.definition.specs.Act.{Act, done, fail, store_to, ◌>>=◌}
 use Rattle.definition.specs.Term.{Term, node, is, eval, kid, kids}

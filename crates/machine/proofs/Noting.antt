@@ -1,13 +1,17 @@
 -- What a statement that is no Assign does: its value, and a note. Assumes nothing.
-use mathlib.Core.Path.{◌≡◌, refl, ap, ◌∙◌}
+use mathlib.Core.Path.{◌≡◌, refl, ap, ap₂, ◌∙◌}
 use mathlib.Core.Bool.{Bool, true, false, not, ◌||◌}
 use mathlib.Core.List.{List}
 use Prim.Native.Nat.{ℕ}
 use lib.Dec.{eqb}
 use borrow.Author.Tests.{ne_eqb}
 use Rattle.value.specs.declared.Val.{Val}
+use native.Mathlib.Omega.{arith}
 use Rattle.files.specs.Nodes.{kind_of}
-use Rattle.files.specs.Program.{Tree, Assign, Call, Intrinsic}
+use Rattle.files.proofs.KindLaws.{same_test}
+use Rattle.files.specs.declared.kinds.Kind.{Kind}
+use Rattle.files.specs.Program.{Tree, kind_numbered, number_of}
+use Rattle.files.specs.declared.kinds.Kind.TheVariants.{Assign, Call, Intrinsic}
 use Rattle.definition.specs.Act.{Act, done, pending, no_note, ◌>>=◌}
 use Rattle.definition.specs.Term.{Term, is, eval}
 use Rattle.definition.specs.Evaluate.{Env, Did, did, unknown_note, look, execute}
@@ -20,7 +24,7 @@ use Rattle.hosting.specs.declared.Did as code
 use Rattle.hosting.specs.Scene.{Given, given}
 use Rattle.hosting.specs.Stands.{Stands, stands}
 use Rattle.hosting.specs.Ending.{ended, end_of, done_of}
-use Rattle.operations.specs.Registers.{result_in, end_in, told_end}
+use Rattle.operations.specs.Registers.{result_in, end_in, told_end, end_by, short_in}
 use Rattle.operations.specs.Going.{Goes}
 use Rattle.machine.specs.Post.{Evals, Executes, Evaluates, Assigns}
 use Rattle.operations.specs.Steps.{noted, noted_end}
@@ -63,3 +67,9 @@ module _ {b s r : List ℕ} {n : ℕ} {w₀ o₀ : List ℕ} {q : Bool} {w o : L
 
   pub gives_other : {k : ℕ} {d : Result code.Did Short} → k ≡ kind_of b n → (k ≡ 13 → ⊥) → Evaluates b s r n w₀ o₀ q w o → done_of d ≡ noted_end k q w → Executes b s r n w₀ o₀ d w o
   gives_other {k} ek ne ev l = record { goes = λ t i. told (l ∙ ap (λ (j : ℕ). noted_end j q w) ek) (other_goes ev (λ z. ne (ek ∙ z)) i q refl) }
+
+-- a kind that was read, by its number
+pub numbered_noted : (κ : Kind) (k : ℕ) (q : Bool) (w : List ℕ) → κ ≡ kind_numbered k → noted_end (number_of κ) q w ≡ noted_end k q w
+numbered_noted κ k q w e =
+    ap (λ (j : Kind). noted_end (number_of j) q w) e
+    ∙ ap₂ (λ (x y : Bool). end_by q (did (elim (x || y) [ true ↦ unknown_note (result_in w) (pending_in (note_part w)) | false ↦ no_note ])) (short_in w)) (same_test k 14 (omega arith)) (same_test k 15 (omega arith))

@@ -9,7 +9,8 @@ use borrow.Author.Tests.{eqb-true, eqb-false, eq-eqb, ne_eqb}
 use Rattle.value.specs.declared.Val.{Val}
 use Rattle.value.specs.declared.Ty.{Ty}
 use Rattle.files.specs.Nodes.{kind_of, ref_of, value_of}
-use Rattle.files.specs.Program.{Tree, tree, Trees, nil, cons, node_of, Cast, Deref}
+use Rattle.files.specs.Program.{Tree, tree, Trees, nil, cons, node_of}
+use Rattle.files.specs.declared.kinds.Kind.TheVariants.{Cast, Deref}
 use Rattle.files.specs.Spells.{next, size}
 use Rattle.definition.specs.Act.{Act, done, fail, struct_to, unknown_address, fields_written, ◌>>=◌, ◌>>◌}
 use Rattle.definition.specs.Term.{Term, Terms, node, is, eval, kid, kids, count}

@@ -11,6 +11,7 @@ ghost use Rattle.operations.specs.Registers.{result_in};
 ghost use Rattle.operations.specs.Going.{ReadyIn};
 ghost use Rattle.machine.specs.Post.{ReadyBy, Evals, Executes, Evaluates, Assigns, EvaluatesKids, EvaluatesArgs, AssignsVal, AssignsStruct, StoresStruct, StoresFields};
 
+use files::kinds::Kind;
 use files::nodes;
 use hosting::{Did, Reads, Short};
 use operations::{calls, names, places, results, values};
@@ -34,13 +35,12 @@ pub fn execute(reads: Reads, ws: &mut [u8], out: &mut [u8], n: usize) -> Result<
     requires fine { Fine reads.nodes.now n }
     ensures { Executes reads.entry.nodes.now reads.entry.symbols.now reads.entry.regions.now n ws.old out.old result ws.new out.new }
 {
-    let kind = nodes::kind(reads.nodes, n);
-    if kind == nodes::ASSIGN {
+    if nodes::is(reads.nodes, n, Kind::Assign) {
         let ok = execute_assign(&reads, ws, out, n);
         return results::executed(ws, ok);
     }
     let ok = evaluate(&reads, ws, out, n);
-    results::noted(ws, kind, ok)
+    results::noted(ws, nodes::kind(reads.nodes, n), ok)
 }
 
 // An Assign that is a statement. One to a variable, as most are, does here what `assign` does, without a call of the cycle for itself.
@@ -52,12 +52,10 @@ fn execute_assign(reads: &Reads, ws: &mut [u8], out: &mut [u8], n: usize) -> boo
 {
     let left = n + 1;
     let right = places::next(reads.nodes, left);
-    let target = nodes::kind(reads.nodes, left);
-    if target != nodes::VAR {
+    if !nodes::is(reads.nodes, left, Kind::Var) {
         return evaluate(reads, ws, out, n);
     }
-    let kind = nodes::kind(reads.nodes, right);
-    if kind == nodes::STRUCT_INIT {
+    if nodes::is(reads.nodes, right, Kind::StructInit) {
         return evaluate(reads, ws, out, n);
     }
     if !evaluate(reads, ws, out, right) {
@@ -78,27 +76,27 @@ fn evaluate(reads: &Reads, ws: &mut [u8], out: &mut [u8], n: usize) -> bool
     requires fine { Fine reads.now.nodes.now n }
     ensures { (Evaluates reads.now.nodes.now reads.now.symbols.now reads.now.regions.now n ws.old out.old result ws.new out.new) × ((kind_of reads.now.nodes.now n ≡ 13) → Assigns reads.now.nodes.now reads.now.symbols.now reads.now.regions.now n ws.old out.old result ws.new out.new) }
 {
-    let kind = nodes::kind(reads.nodes, n);
-    match kind {
-        0 => values::constant(reads.nodes, ws, n),
-        1 => names::variable(reads.nodes, reads.symbols, reads.regions, ws, out, n),
-        2 => values::register(reads.nodes, ws, n),
-        3 => values::unknown(ws, Ty::U64),
-        4 => values::unknown(ws, Ty::U64),
-        5 => values::truth(ws, 1),
-        6 => values::truth(ws, 0),
-        7 => values::decided(reads.nodes, ws, n),
-        8 => cast(reads, ws, out, n),
-        9 => deref(reads, ws, out, n),
-        10 => names::address(reads.nodes, reads.symbols, ws, out, n + 1),
-        11 => ternary(reads, ws, out, n),
-        12 => binary(reads, ws, out, n),
-        13 => assigned(reads, ws, out, n),
-        14 => call(reads, ws, out, n),
-        15 => intrinsic(reads, ws, out, n),
-        16 => returned(reads, ws, out, n),
-        17 => values::unknown(ws, Ty::U64),
-        _ => values::unknown(ws, Ty::I64),
+    match nodes::kind(reads.nodes, n) {
+        Kind::Constant => values::constant(reads.nodes, ws, n),
+        Kind::Var => names::variable(reads.nodes, reads.symbols, reads.regions, ws, out, n),
+        Kind::Register => values::register(reads.nodes, ws, n),
+        Kind::StringLiteral => values::unknown(ws, Ty::U64),
+        Kind::FunctionName => values::unknown(ws, Ty::U64),
+        Kind::ConditionTrue => values::truth(ws, 1),
+        Kind::ConditionFalse => values::truth(ws, 0),
+        Kind::ConstantCondition => values::decided(reads.nodes, ws, n),
+        Kind::Cast => cast(reads, ws, out, n),
+        Kind::Deref => deref(reads, ws, out, n),
+        Kind::AddressOf => names::address(reads.nodes, reads.symbols, ws, out, n + 1),
+        Kind::Ternary => ternary(reads, ws, out, n),
+        Kind::Binary => binary(reads, ws, out, n),
+        Kind::Assign => assigned(reads, ws, out, n),
+        Kind::Call => call(reads, ws, out, n),
+        Kind::Intrinsic => intrinsic(reads, ws, out, n),
+        Kind::Return => returned(reads, ws, out, n),
+        Kind::StructInit => values::unknown(ws, Ty::U64),
+        Kind::Field => values::unknown(ws, Ty::I64),
+        Kind::Plain => values::unknown(ws, Ty::I64),
     }
 }
 
@@ -228,8 +226,7 @@ fn assign(reads: &Reads, ws: &mut [u8], out: &mut [u8], n: usize) -> bool
 {
     let left = n + 1;
     let right = places::next(reads.nodes, left);
-    let kind = nodes::kind(reads.nodes, right);
-    if kind == nodes::STRUCT_INIT {
+    if nodes::is(reads.nodes, right, Kind::StructInit) {
         return assign_struct(reads, ws, out, left, right);
     }
     if !operand(reads, ws, out, right) {
@@ -246,11 +243,10 @@ fn assign_val(reads: &Reads, ws: &mut [u8], out: &mut [u8], left: usize) -> bool
     ensures { AssignsVal reads.now.nodes.now reads.now.symbols.now reads.now.regions.now left (result_in ws.old) ws.old out.old result ws.new out.new }
 {
     let v = registers::value(ws, results::RESULT);
-    let kind = nodes::kind(reads.nodes, left);
-    if kind == nodes::VAR {
+    if nodes::is(reads.nodes, left, Kind::Var) {
         return names::write(reads.nodes, reads.symbols, ws, out, left, v);
     }
-    if kind != nodes::DEREF {
+    if !nodes::is(reads.nodes, left, Kind::Deref) {
         return results::ends(ws, Short::Why(Reason::StoreTo, left as u64));
     }
     let target = left + 1;
@@ -271,8 +267,7 @@ fn assign_struct(reads: &Reads, ws: &mut [u8], out: &mut [u8], left: usize, righ
     requires right_of_kind { kind_of reads.now.nodes.now right ≡ 17 }
     ensures { AssignsStruct reads.now.nodes.now reads.now.symbols.now reads.now.regions.now left right ws.old out.old result ws.new out.new }
 {
-    let kind = nodes::kind(reads.nodes, left);
-    if kind != nodes::DEREF {
+    if !nodes::is(reads.nodes, left, Kind::Deref) {
         return results::ends(ws, Short::Why(Reason::StructTo, left as u64));
     }
     let base = places::base(reads.nodes, left + 1);

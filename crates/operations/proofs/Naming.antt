@@ -7,7 +7,8 @@ use Rattle.value.specs.declared.Ty.{Ty}
 use Rattle.value.specs.declared.Val.{Val}
 use Rattle.value.specs.Value.{type, known_val, unknown_val, cast_to}
 use Rattle.files.specs.Nodes.{kind_of, ref_of, width_of, value_of}
-use Rattle.files.specs.Program.{Tree, tree, node_of, Var}
+use Rattle.files.specs.Program.{Tree, tree, node_of}
+use Rattle.files.specs.declared.kinds.Kind.TheVariants.{Var}
 use Rattle.files.specs.World.{address_in, size_in}
 use Rattle.memory.specs.Overlay.{find}
 use Rattle.definition.specs.Question.{address_of, size_of, cut}

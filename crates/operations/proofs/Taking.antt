@@ -8,7 +8,8 @@ use Rattle.value.specs.declared.Val.{Val}
 use Rattle.value.specs.Value.{unknown_val}
 use Rattle.memory.specs.Overlay.{Overlay, store}
 use Rattle.files.specs.Nodes.{kind_of, ref_of, value_of}
-use Rattle.files.specs.Program.{Tree, tree, Trees, node_of, FunctionName, AddressOf, Var}
+use Rattle.files.specs.Program.{Tree, tree, Trees, node_of}
+use Rattle.files.specs.declared.kinds.Kind.TheVariants.{FunctionName, AddressOf, Var}
 use Rattle.files.specs.Spells.{next}
 use Rattle.definition.specs.Question.{World, Calling, call_to, cut, cut_val}
 use Rattle.definition.specs.Act.{Act, done, ask, set, leave, End, gave, ◌>>=◌}

@@ -8,6 +8,7 @@ ghost use Rattle.operations.specs.Taking.{PutsVal, Follows, Takes, TakesAll, Not
 use crate::places::next;
 use crate::results::{ASKED, DEPTH, SECOND};
 use crate::values::unknown;
+use files::kinds::Kind;
 use files::nodes;
 use value::{Ty, Val};
 use workspace::{QUESTIONS, note, registers, types, variables};
@@ -32,7 +33,7 @@ fn follow(nodes: &[u8], ws: &mut [u8], out: &mut [u8], vals: &[u8], count: usize
     requires vals_len { length vals.now ≡ 224 }
     ensures { Follows nodes.now vals.now count n ws.old out.old ws.new out.new }
 {
-    if nodes::kind(nodes, n) != nodes::FUNCTION_NAME {
+    if !nodes::is(nodes, n, Kind::FunctionName) {
         return;
     }
     let deepest = registers::word(ws, DEPTH) == 0;
@@ -56,10 +57,10 @@ fn take(nodes: &[u8], ws: &mut [u8], n: usize)
     requires note_open { NoteOpen ws.old }
     ensures { Takes nodes.now n ws.old ws.new }
 {
-    if nodes::kind(nodes, n) != nodes::ADDRESS_OF {
+    if !nodes::is(nodes, n, Kind::AddressOf) {
         return;
     }
-    if nodes::kind(nodes, n + 1) != nodes::VAR {
+    if !nodes::is(nodes, n + 1, Kind::Var) {
         return;
     }
     let name = nodes::reference(nodes, n + 1);

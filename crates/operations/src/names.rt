@@ -17,6 +17,7 @@ ghost use Rattle.operations.specs.Asking.{Sends, AsksAddress, AsksSize, symbol_v
 use crate::places::{load_at, store_value};
 use crate::results::{ASKED, SECOND, ends, is, wrote};
 use crate::values::{constant_of, unknown};
+use files::kinds::Kind;
 use files::nodes;
 use hosting::Short;
 use index::symbols;
@@ -149,10 +150,9 @@ pub fn at_hand(nodes: &[u8], ws: &[u8], n: usize) -> Option<Val>
     requires fine { Fine nodes.now n }
     ensures { AtHand nodes.now n ws.now result }
 {
-    let kind = nodes::kind(nodes, n);
-    match kind {
-        0 => Some(constant_of(nodes, n)),
-        1 => variables::variable(ws, nodes::reference(nodes, n)),
+    match nodes::kind(nodes, n) {
+        Kind::Constant => Some(constant_of(nodes, n)),
+        Kind::Var => variables::variable(ws, nodes::reference(nodes, n)),
         _ => None,
     }
 }
@@ -164,7 +164,7 @@ pub fn address(nodes: &[u8], symbols: &[u8], ws: &mut [u8], out: &mut [u8], n: u
     requires fine { Fine nodes.now n }
     ensures { Addresses nodes.now symbols.now n ws.old out.old result ws.new out.new }
 {
-    if nodes::kind(nodes, n) != nodes::VAR {
+    if !nodes::is(nodes, n, Kind::Var) {
         return unknown(ws, Ty::U64);
     }
     match ask_address(nodes, symbols, ws, out, n) {

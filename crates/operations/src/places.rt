@@ -16,6 +16,7 @@ ghost use Rattle.operations.specs.Steps.{Gives, Targets, base_at, store_through,
 
 use crate::results::{ASKED, REGIONS, RESULT, SECOND, STORED, ends, fields, is, written};
 use crate::values::{type_of, unknown};
+use files::kinds::Kind;
 use files::nodes;
 use hosting::Short;
 use index::regions;
@@ -46,8 +47,7 @@ pub fn target_of(nodes: &[u8], ws: &[u8], n: usize) -> Target
     requires n_bound { kind_of nodes.now n ≡ 8 → ref_of nodes.now n < 512 }
     ensures { Targets nodes.now ws.now n result }
 {
-    let kind = nodes::kind(nodes, n);
-    if kind == nodes::CAST {
+    if nodes::is(nodes, n, Kind::Cast) {
         if let Some(ty) = types::pointee(ws, nodes::reference(nodes, n)) {
             return Target { node: n + 1, ty };
         }
@@ -63,8 +63,11 @@ pub fn base(nodes: &[u8], n: usize) -> usize
     requires { n * 20 + 20 ≤ length nodes.now }
     ensures { result ≡ base_at nodes.now n }
 {
-    let kind = nodes::kind(nodes, n);
-    if kind == nodes::CAST { n + 1 } else { n }
+    if nodes::is(nodes, n, Kind::Cast) {
+        n + 1
+    } else {
+        n
+    }
 }
 
 // ---- memory

@@ -1,14 +1,15 @@
 // What an evaluation comes to, put in the registers and taken from them.
-ghost use Rattle.std.specs.Prelude.{◌≡◌, ◌≤◌, length};
+ghost use Rattle.std.specs.Prelude.{◌≡◌, ◌==◌, ◌||◌, ◌≤◌, length};
 ghost use Rattle.definition.specs.Act.{fields_written, value_written};
 ghost use Rattle.definition.specs.Evaluate.{did};
+ghost use Rattle.files.specs.Program.{number_of};
 ghost use Rattle.stream.specs.Bodies.{reason_at};
 ghost use Rattle.workspace.specs.Parts.{workspace_size};
 ghost use Rattle.hosting.specs.Ending.{end_of, did_of, done_of, note_of};
 ghost use Rattle.operations.specs.Registers.{counts_in, short_at, short_in, did_write, told_at, kind_in, told_in, end_in, told_end};
 ghost use Rattle.operations.specs.Steps.{Gives, GivesShort, Tells, Enters, EntersCounts, EntersHow, noted_end};
 
-use files::nodes;
+use files::kinds::Kind;
 use hosting::{Counts, Did, How, Note, Short, Tally};
 use stream::Reason;
 use value::Val;
@@ -251,16 +252,22 @@ pub fn executed(ws: &[u8], ok: bool) -> Result<Did, Short>
     if ok { Ok(did(ws)) } else { Err(short(ws)) }
 }
 
+fn is_called(kind: Kind) -> bool
+    ensures { result ≡ (number_of kind == 14 || number_of kind == 15) }
+{
+    (kind == Kind::Call) | (kind == Kind::Intrinsic)
+}
+
 // What a statement came to that is no Assign: a Call or an Intrinsic whose value is unknown is noted, unless a call left a note.
-pub fn noted(ws: &[u8], kind: u8, ok: bool) -> Result<Did, Short>
+pub fn noted(ws: &[u8], kind: Kind, ok: bool) -> Result<Did, Short>
     requires { workspace_size ≤ length ws.now }
-    ensures { done_of result ≡ noted_end kind ok ws.now }
+    ensures { done_of result ≡ noted_end (number_of kind) ok ws.now }
 {
     if !ok {
         return Err(short(ws));
     }
     let v = registers::value(ws, RESULT);
-    let called = (kind == nodes::CALL) | (kind == nodes::INTRINSIC);
+    let called = is_called(kind);
     if called & !v.known & !note::has_note(ws) {
         Ok(notes(Note::Unknown))
     } else {

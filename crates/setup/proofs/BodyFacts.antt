@@ -24,7 +24,7 @@ use Rattle.index.proofs.Accepted.{names_read, types_read, routine_types, routine
 use Rattle.index.proofs.RegionPlaces.{regions_accepted}
 use Rattle.index.proofs.TextPlaces.{types_count}
 use Rattle.hosting.specs.declared.Facts.{Facts}
-use Rattle.std.specs.Prelude.{Option, None, Some}
+use Rattle.std.specs.Prelude.{Option, Some}
 use Rattle.setup.specs.Heads.{Heads}
 use Rattle.setup.specs.Post.{Finds, Returning, Knows, Indexes, IndexesBlocks}
 use Rattle.setup.proofs.HeadLaws.{has, heads}
@@ -75,9 +75,6 @@ no_regions = regions_accepted [] (omega arith) (omega arith)
 module _ {returns t : List ℕ} {s : Bool} (e : t ≡ returns) (f : s ≡ same t (text "void")) where
   is_void : {u : Bool} → s ≡ u → same returns (text "void") ≡ u
   is_void q = ap (λ (l : List ℕ). same l (text "void")) (sym e) ∙ sym f ∙ q
-
-  pub returns_void : s ≡ true → Returning returns None
-  returns_void q = record { is = λ v. rw (is_void q) }
 
   pub returns_as_lem : {ty : Ty} → s ≡ false → ty ≡ type_of t → Returning returns (Some ty)
   returns_as_lem q g = record { is = λ v. rw (is_void q, g, e) }

@@ -1,8 +1,8 @@
 -- Variables declared one after another: the last of a name stands. Assumes nothing.
-use mathlib.Core.Path.{◌≡◌, refl, sym, ap, subst, ◌∙◌}
+use mathlib.Core.Path.{◌≡◌, refl, sym, ap, ◌∙◌}
 use mathlib.Core.List.{List, [], ◌∷◌, ◌++◌}
 use Rattle.std.specs.Prelude.{None, Some}
-use Prim.Native.Nat.{ℕ, ◌+◌, ◌≤◌, ◌<◌}
+use Prim.Native.Nat.{ℕ, ◌+◌}
 use native.Mathlib.Omega.{arith}
 use borrow.Author.Tests.{eq-eqb, ne_eqb}
 use lib.ListN.{get_or}
@@ -12,10 +12,10 @@ use Rattle.memory.proofs.OverlayLaws.{below, equal, above, compared}
 use Rattle.files.specs.Program.{Variable, listed, variable_at}
 use Rattle.definition.specs.Walk.{declared_in}
 use Rattle.workspace.specs.Parts.{tables}
-use Rattle.workspace.specs.Types.{declared_at, type_at, Coded}
+use Rattle.workspace.specs.Types.{declared_at, type_at}
 use Rattle.workspace.specs.Post.{Declares}
-use Rattle.setup.specs.declared.variables.Named.{Named}
-use Rattle.setup.specs.Heads.{variable_count, variables, Reads, Typed, AllCoded}
+use Rattle.setup.specs.declared.head.Named.{Named}
+use Rattle.setup.specs.Heads.{variables, Reads, Typed}
 use Rattle.setup.specs.Post.{DeclaresSome}
 use Rattle.setup.proofs.Following.{kept_none, kept_then}
 use Rattle.setup.proofs.HeadLaws.{variables_more}
@@ -35,10 +35,6 @@ module _ (types : List (List ℕ)) where
 pub declare_none : (head w : List ℕ) → DeclaresSome head 0 w w
 unfolding declared_in listed
 declare_none head w = record { kept = kept_none w; types = λ i. refl; pointees = λ i. refl; declared = λ types typed None x. None x }
-
--- the type of a variable, as the table had it at first
-pub declare_coded : {head w₀ w : List ℕ} {k i : ℕ} {ty : Ty} → DeclaresSome head k w₀ w → AllCoded (tables w₀) → i < 512 → ty ≡ type_at (tables w) i → Coded ty
-declare_coded {i = i} so all l e = subst Coded (sym (e ∙ so.types i)) (all.coded i l)
 
 pub declare_more : {head w₀ w w' : List ℕ} {k : ℕ} {v : Named} {ty : Ty} → DeclaresSome head k w₀ w → Reads head k v → ty ≡ type_at (tables w) v.ty → Declares w v.name ty w'
     → DeclaresSome head (k + 1) w₀ w'
@@ -63,6 +59,3 @@ declare_more {head} {w₀} {w} {w'} {k} {v} {ty} so r e d = record {
         other : (types : List (List ℕ)) → Typed types (tables w₀) → ((x : ℕ) → declared_at (tables w₀) x ≡ None) → (x : ℕ) → (v.name ≡ x → ⊥) → declared_at (tables w') x ≡ declared_in types (variables head k ++ (variable_at head k ∷ [])) x
         other types typed nothing x n =
             d.others x (λ z. n (sym z)) ∙ so.declared types typed nothing x ∙ sym (declared_other types (variables head k) (variable_at head k) x (λ z. n (r.name ∙ z)))
-
-pub declare_done : {head w₀ w : List ℕ} {k n : ℕ} → DeclaresSome head k w₀ w → k ≤ n → n ≤ k → n ≡ variable_count head → DeclaresSome head (variable_count head) w₀ w
-declare_done {head} {w₀} {w} {k} so l g e = let q : k ≡ variable_count head = omega arith in subst (λ (m : ℕ). DeclaresSome head m w₀ w) q so

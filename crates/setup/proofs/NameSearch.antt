@@ -22,7 +22,7 @@ use Rattle.index.proofs.TextPlaces.{names_texts}
 use Rattle.index.proofs.NameOrder.{before_differs}
 use Rattle.index.proofs.AscendingNames.{names_ascend}
 use Rattle.setup.specs.Post.{Finds}
-use Rattle.setup.proofs.TextWalk.{walk_none, walk_on_lem, one_there, text_there, walk_room, past_last, no_text}
+use Rattle.setup.proofs.TextWalk.{walk_none, walk_on_lem, one_there, text_there, past_last, no_text}
 
 same_is : (a b : List ℕ) → same a b ≡ true → a ≡ b
 same_is [] [] h = refl
@@ -60,9 +60,6 @@ module _ {names wanted : List ℕ} {at x : ℕ} (good : 1 ≤ names_in names) (s
   module _ {t : List ℕ} (h : at < length names) (text : TextAt names at t) where
     its_name : t ≡ get_or (texts_in names) x []
     its_name = text.is x all (one_there all x so.here h) so.here
-
-    pub seek_room : at + length t + 1 ≤ length names
-    seek_room = walk_room all x so.here (one_there all x so.here h) text.size
 
     pub seek_on : {s : Bool} → s ≡ same t wanted → s ≡ false → Seeking names wanted (at + length t + 1) (x + 1)
     seek_on e f = record {

@@ -1,29 +1,25 @@
 -- Variables set one after another: parameters at the start, where the last of a name stands, and those that are not set at the end, where the first
 -- does. Assumes nothing.
-use mathlib.Core.Path.{◌≡◌, refl, sym, ap, ap₂, subst, ◌∙◌}
-use mathlib.Core.Bool.{true}
-use mathlib.Core.List.{List, [], ◌∷◌, ◌++◌, map}
+use mathlib.Core.Path.{◌≡◌, refl, sym, ap, ap₂, ◌∙◌}
+use mathlib.Core.List.{List, [], ◌∷◌, ◌++◌}
 use Rattle.std.specs.Prelude.{Option, None, Some, slice_get}
-use Prim.Native.Nat.{ℕ, zero, suc, ◌+◌, ◌≤◌, ◌<◌}
-use native.Mathlib.Nat.{not-suc-le-zero, le_of_suc-le-suc}
-use native.Mathlib.Omega.{arith}
+use Prim.Native.Nat.{ℕ, ◌+◌}
 use lib.ListN.{length, get_or}
 use Rattle.value.specs.declared.Ty.{Ty}
 use Rattle.value.specs.declared.Val.{Val}
-use Rattle.value.specs.Value.{type, known_val, unknown_val, cast_to}
+use Rattle.value.specs.Value.{type, unknown_val}
 use Rattle.spelling.specs.Spelling.{type_of}
 use Rattle.memory.specs.Overlay.{Overlay, find, store}
 use Rattle.files.specs.Program.{Variable, listed, variable_at}
 use Rattle.files.proofs.ListedLaws.{length_listed}
 use Rattle.definition.specs.Walk.{parameters_set, unset_added}
-use Rattle.files.specs.Call.{limits_in}
 use Rattle.workspace.specs.Parts.{frame_part, tables}
 use Rattle.workspace.specs.Variables.{variables_in}
 use Rattle.workspace.specs.Types.{type_at}
 use Rattle.workspace.specs.View.{View, view, Changes, setting}
 use Rattle.hosting.specs.Setting.{with_variables}
-use Rattle.setup.specs.declared.variables.Named.{Named}
-use Rattle.setup.specs.Heads.{variable_count, parameter_count, variables, Reads, Typed, argument_if, added_if, adding, starting, ending}
+use Rattle.setup.specs.declared.head.Named.{Named}
+use Rattle.setup.specs.Heads.{variables, Reads, Typed, argument_if, added_if, adding, starting, ending}
 use Rattle.setup.specs.Post.{arguments_in, StartsSome, EndsSome}
 use Rattle.setup.proofs.Following.{changes_none, changes_then}
 use Rattle.setup.proofs.HeadLaws.{variables_more}
@@ -103,12 +99,6 @@ pub end_none : (head w : List ℕ) → EndsSome head 0 w w
 unfolding unset_added listed
 end_none head w = record { size = refl; same = refl; changes = λ types typed. changes_none w _ (λ x. refl) }
 
-pub start_done : {head call w₀ w : List ℕ} {k n : ℕ} → StartsSome head call k w₀ w → k ≤ n → n ≤ k → n ≡ parameter_count head → StartsSome head call (parameter_count head) w₀ w
-start_done {head} {call} {w₀} {w} {k} so l g e = let q : k ≡ parameter_count head = omega arith in subst (λ (m : ℕ). StartsSome head call m w₀ w) q so
-
-pub end_done : {head w₀ w : List ℕ} {k n : ℕ} → EndsSome head k w₀ w → k ≤ n → n ≤ k → n ≡ variable_count head → EndsSome head (variable_count head) w₀ w
-end_done {head} {w₀} {w} {k} so l g e = let q : k ≡ variable_count head = omega arith in subst (λ (m : ℕ). EndsSome head m w₀ w) q so
-
 -- ---- one name that may be set
 
 module _ (w : List ℕ) (x : ℕ) (t : Ty) {r : Option Val} (e : r ≡ find x (variables_in (frame_part w))) where
@@ -123,23 +113,3 @@ module _ (w : List ℕ) (x : ℕ) (t : Ty) {r : Option Val} (e : r ≡ find x (v
   added_unset {v} q p c =
       let o = sym e ∙ q in
       record { holds = λ s. c.holds s ∙ rw (o, p); tables = c.tables; fit = c.fit; size = c.size; registers = c.registers; questions = c.questions }
-
--- ---- an argument
-
-argument_there : (l : List ℕ) (k : ℕ) → k < length l → slice_get (map (λ a. known_val a (type 64 true)) l) k ≡ Some (known_val (get_or l k 0) (type 64 true))
-argument_there [] k h = absurd (not-suc-le-zero h)
-argument_there (a ∷ l) zero h = refl
-argument_there (a ∷ l) (suc k) h = argument_there l k (le_of_suc-le-suc h)
-
-argument_missing : (l : List ℕ) (k : ℕ) → length l ≤ k → slice_get (map (λ a. known_val a (type 64 true)) l) k ≡ None
-argument_missing [] k h = refl
-argument_missing (a ∷ l) zero h = absurd (not-suc-le-zero h)
-argument_missing (a ∷ l) (suc k) h = argument_missing l k (le_of_suc-le-suc h)
-
-module _ (call : List ℕ) (k n : ℕ) (t : Ty) (e : n ≡ length (limits_in call).arguments) where
-  pub argument_given : {a : ℕ} {u v : Val} → k < n → a ≡ get_or (limits_in call).arguments k 0 → u ≡ known_val a (type 64 true) → v ≡ cast_to u t → v ≡ argument_if (slice_get (arguments_in call) k) t
-  argument_given {a} {u} {v} l p q r =
-      r ∙ ap (λ (z : Val). cast_to z t) (q ∙ ap (λ (z : ℕ). known_val z (type 64 true)) p) ∙ sym (ap (λ (o : Option Val). argument_if o t) (argument_there (limits_in call).arguments k (omega (arith, l, e))))
-
-  pub argument_none : {v : Val} → n ≤ k → v ≡ unknown_val t → v ≡ argument_if (slice_get (arguments_in call) k) t
-  argument_none l r = r ∙ sym (ap (λ (o : Option Val). argument_if o t) (argument_missing (limits_in call).arguments k (omega (arith, l, e))))

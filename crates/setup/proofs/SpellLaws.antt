@@ -17,7 +17,7 @@ use Rattle.hosting.specs.Scene.{pointee}
 use Rattle.setup.specs.Post.{Spells, Unspelled}
 use Rattle.setup.proofs.TypeLaws.{coded_pointed, pointed}
 use Rattle.setup.proofs.Following.{kept_none, kept_then}
-use Rattle.setup.proofs.TextWalk.{walk_none, walk_on_lem, one_there, text_there, walk_room, past_last, no_text}
+use Rattle.setup.proofs.TextWalk.{walk_none, walk_on_lem, one_there, text_there, past_last, no_text}
 
 pub coded_pointee : {p : Option Ty} (t : List ℕ) → p ≡ pointee_of t → CodedIf p
 coded_pointee t f = subst CodedIf (sym f) (coded_pointed t)
@@ -66,9 +66,6 @@ module _ {b w₀ w : List ℕ} {at i : ℕ} (all : Texts b) (so : Spelling b w�
     spell_inside = text_there all i so.here one
 
     module _ {t : List ℕ} (text : TextAt b at t) where
-      pub spell_room : at + length t + 1 ≤ length b
-      spell_room = walk_room all i so.here one text.size
-
       pub spell_more : {w' : List ℕ} {ty : Ty} {p : Option Ty} → ty ≡ type_of t → p ≡ pointee_of t → PutsType w i ty p w' → Spelling b w₀ w' (at + length t + 1) (i + 1)
       spell_more e f puts = record {
         spells = spells_more so.spells (text.is i all one so.here) e f puts;
@@ -81,14 +78,8 @@ module _ {b w₀ w : List ℕ} {at i : ℕ} (all : Texts b) (so : Spelling b w�
 
 -- ---- the types past them
 
-pub unspelled_none : (m : ℕ) (w : List ℕ) → Unspelled m m w w
-unspelled_none m w = record { size = refl; spells = λ b w₀ h so. so }
-
 pub unspelled_more : {m i : ℕ} {w₀ w w' : List ℕ} {ty : Ty} → m ≤ i → Unspelled m i w₀ w → ty ≡ type_of [] → PutsType w i ty None w' → Unspelled m (i + 1) w₀ w'
 unspelled_more {i = i} l so e puts = record {
   size = puts.kept.size ∙ so.size;
   spells = λ b w₀ h s. spells_more {t = []} {p = None} (so.spells b w₀ h s) (sym (no_text b i (omega arith))) e refl puts;
 }
-
-pub unspelled_done : {m n i : ℕ} {w w' : List ℕ} → n ≤ i → Unspelled m i w w' → Unspelled m n w w'
-unspelled_done l so = record { size = so.size; spells = λ b w₀ h s. spells_fewer l (so.spells b w₀ h s) }

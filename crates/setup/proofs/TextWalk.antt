@@ -1,5 +1,5 @@
 -- The texts of a body, one after another. Assumes nothing.
-use mathlib.Core.Path.{◌≡◌, refl, sym, ap, subst, ◌∙◌}
+use mathlib.Core.Path.{◌≡◌, refl, sym, ap, subst}
 use mathlib.Core.List.{List, []}
 use Prim.Native.Nat.{ℕ, ◌+◌, ◌≤◌, ◌<◌}
 use native.Mathlib.Nat.{lt_of_not-le, le_of_suc-le-suc}
@@ -57,6 +57,3 @@ module _ {b : List ℕ} {k at i : ℕ} (all : Texts b) (few : k < text_count b) 
 
     pub walking_on : i < k → Walking b k (at + length t + 1) (i + 1)
     walking_on l = record { here = walk_on_lem b i so.here text.size; most = omega arith }
-
-    pub walking_found : k ≤ i → t ≡ get_or (texts_in b) k []
-    walking_found l = let e : i ≡ k = omega (arith, so.most) in text.is k all few (so.here ∙ ap (place_from (text_size b) 0) e)

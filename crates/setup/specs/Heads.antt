@@ -11,7 +11,7 @@ use Rattle.definition.specs.Walk.{parameters_set, unset_added}
 use Rattle.workspace.specs.Types.{type_at, Coded}
 use Rattle.workspace.specs.View.{View}
 use Rattle.hosting.specs.Setting.{with_variables}
-use Rattle.setup.specs.declared.variables.Named.{Named}
+use Rattle.setup.specs.declared.head.Named.{Named}
 
 -- how many variables a head has, and how many of them are parameters
 abbrev pub variable_count : List ℕ → ℕ

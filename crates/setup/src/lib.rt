@@ -11,9 +11,11 @@ ghost use Rattle.setup.specs.Heads.{Typed};
 ghost use Rattle.setup.specs.Post.{TypesSet, Indexes, IndexesBlocks, Knows};
 
 use files::table::body;
+use head::Head;
 use hosting::{Facts, Indexed};
 
 pub mod facts;
+pub mod head;
 pub mod indexes;
 pub mod texts;
 pub mod variables;
@@ -56,6 +58,16 @@ fn set_facts(routine: &[u8], ws: &mut [u8]) -> Facts
     facts::facts_of(routine, blocks)
 }
 
+// The head of a routine.
+fn head_of(routine: &[u8]) -> Head
+    requires { routine_refusal routine.now ≡ 0 }
+    ensures { result.bytes.now ≡ body routine.now 2 }
+{
+    Head {
+        bytes: body(routine, 2),
+    }
+}
+
 // The tables of a routine and a world, whatever the workspace held.
 pub fn set_tables(routine: &[u8], world: &[u8], ws: &mut [u8]) -> Indexed
     requires routine_accepted { routine_refusal routine.now ≡ 0 }
@@ -64,7 +76,7 @@ pub fn set_tables(routine: &[u8], world: &[u8], ws: &mut [u8]) -> Indexed
     ensures { (Tabled routine.now world.now ws.new result) × (length ws.new ≡ length ws.old) }
 {
     set_types(routine, ws);
-    variables::declare_all(body(routine, 2), ws);
+    variables::declare_all(head_of(routine), ws);
     let regions = set_world(routine, world, ws);
     let facts = set_facts(routine, ws);
     Indexed { regions, facts }
@@ -79,7 +91,7 @@ pub fn set_start(routine: &[u8], call: &[u8], ws: &mut [u8])
     ensures { Started routine.now call.now ws.old ws.new }
 {
     variables::empty(ws);
-    variables::set_parameters(body(routine, 2), body(call, 0), ws);
+    variables::set_parameters(head_of(routine), body(call, 0), ws);
 }
 
 // Each declared name that was never set becomes unknown, of the type of the first of that name.
@@ -89,7 +101,7 @@ pub fn set_end(routine: &[u8], ws: &mut [u8])
     requires typed { Typed (program_of routine.now).types (tables ws.old) }
     ensures { Finished routine.now ws.old ws.new }
 {
-    variables::add_unset(body(routine, 2), ws);
+    variables::add_unset(head_of(routine), ws);
 }
 
 // The tables of a routine alone: no world, no declared name, nothing set.

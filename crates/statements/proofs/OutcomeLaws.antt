@@ -10,7 +10,8 @@ use Rattle.value.specs.declared.Ty.{Ty}
 use Rattle.value.specs.declared.Val.{Val}
 use Rattle.layout.specs.Text.{text}
 use Rattle.files.specs.Nodes.{kind_of, span_of, value_of}
-use Rattle.files.specs.Program.{Return, Program, Node, Tree, tree, Trees, node_of}
+use Rattle.files.specs.Program.{Program, Node, Tree, tree, Trees, node_of}
+use Rattle.files.specs.declared.kinds.Kind.TheVariants.{Return}
 use Rattle.definition.specs.Act.{Act, done, End, gave, no_note, Why, ◌>>=◌}
 use Rattle.definition.specs.Term.{Term, no_terms, more_terms, eval, node, kids, kid, is}
 use Rattle.definition.specs.Evaluate.{Env, did, look, looks, execute}

@@ -8,7 +8,8 @@ use borrow.Author.Tests.{eq-eqb, ne_eqb, eqb-true, eqb-false}
 use lib.Dec.{eqb}
 use Rattle.layout.specs.Text.{text, same}
 use Rattle.files.specs.Nodes.{kind_of, ref_of, span_of}
-use Rattle.files.specs.Program.{Constant, Return, Program, Node, Tree, Trees, node_of}
+use Rattle.files.specs.Program.{Program, Node, Tree, Trees, node_of}
+use Rattle.files.specs.declared.kinds.Kind.TheVariants.{Constant, Return}
 use Rattle.files.specs.Spells.{next}
 use Rattle.definition.specs.Term.{Term, node, kids, is, kid, count}
 use Rattle.definition.specs.Evaluate.{Env, look, looks}

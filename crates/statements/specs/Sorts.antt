@@ -3,7 +3,8 @@ use Rattle.std.specs.Prelude.{◌≡◌, true, false, List, ℕ, ◌+◌, ◌*�
 use Rattle.layout.specs.Number.{number_at}
 use Rattle.layout.specs.Text.{text}
 use Rattle.files.specs.Nodes.{kind_of, span_of}
-use Rattle.files.specs.Program.{Return, Program, Tree, tree_at}
+use Rattle.files.specs.Program.{Program, Tree, tree_at}
+use Rattle.files.specs.declared.kinds.Kind.TheVariants.{Return}
 use Rattle.definition.specs.Term.{Term, is}
 use Rattle.definition.specs.Evaluate.{Env, look}
 use Rattle.definition.specs.Statements.{is_named, is_halted}

@@ -17,6 +17,8 @@ ghost use Rattle.statements.specs.Post.{Acting, Sends, Concludes, RunsStatement}
 
 use crate::Bodies;
 use crate::steps::{Site, send};
+use files::kinds::Kind;
+use files::nodes;
 use hosting::{Did, Facts, Note, Reads, Short, Stop};
 use operations::results::RECORDED;
 use value::{Ty, Val};
@@ -53,24 +55,23 @@ fn sort_of(nodes: &[u8], facts: Facts, n: usize) -> Sort
     requires { Fine nodes.now n }
     ensures { Sorted nodes.now facts n result }
 {
-    let kind = files::nodes::kind(nodes, n);
-    if kind == files::nodes::RETURN {
+    if nodes::is(nodes, n, Kind::Return) {
         return Sort::Gives;
     }
-    if kind != files::nodes::INTRINSIC {
+    if !nodes::is(nodes, n, Kind::Intrinsic) {
         return Sort::Plain;
     }
-    let name = files::nodes::reference(nodes, n);
+    let name = nodes::reference(nodes, n);
     if is_name(facts.unreachable, name) {
         return Sort::Unreachable;
     }
     if !is_name(facts.halted, name) {
         return Sort::Plain;
     }
-    if files::nodes::span(nodes, n) != 2 {
+    if nodes::span(nodes, n) != 2 {
         return Sort::Plain;
     }
-    if files::nodes::kind(nodes, n + 1) != files::nodes::CONSTANT {
+    if !nodes::is(nodes, n + 1, Kind::Constant) {
         return Sort::Plain;
     }
     Sort::Halts
@@ -92,7 +93,7 @@ fn give(reads: Reads, ws: &mut [u8], out: &mut [u8], facts: Facts, n: usize) -> 
     requires fine { (Fine reads.nodes.now n) × (kind_of reads.nodes.now n ≡ 16) }
     ensures { Acting reads.entry.nodes.now reads.entry.symbols.now reads.entry.regions.now facts n ws.old out.old result ws.new out.new }
 {
-    if files::nodes::span(reads.nodes, n) == 1 {
+    if nodes::span(reads.nodes, n) == 1 {
         return Ok(Acts::Leaves);
     }
     let v = machine::eval(reads, ws, out, n + 1)?;
@@ -108,7 +109,7 @@ fn act(reads: Reads, ws: &mut [u8], out: &mut [u8], facts: Facts, n: usize) -> R
     match sort_of(reads.nodes, facts, n) {
         Sort::Gives => give(reads, ws, out, facts, n),
         Sort::Unreachable => Ok(Acts::Strays),
-        Sort::Halts => Ok(Acts::Halts(files::nodes::value(reads.nodes, n + 1))),
+        Sort::Halts => Ok(Acts::Halts(nodes::value(reads.nodes, n + 1))),
         Sort::Plain => {
             let did = machine::execute(reads, ws, out, n)?;
             Ok(Acts::Does(did))

@@ -16,7 +16,8 @@ use Rattle.value.specs.Value.{type, known_val, unknown_val, cast_to, read_as}
 use Rattle.spelling.specs.Spelling.{type_of}
 use Rattle.memory.specs.Overlay.{Overlay, find, store}
 use Rattle.files.specs.Call.{Limits}
-use Rattle.files.specs.Program.{Statement, Case, case_of, Terminator, returns, goto, branch, switch, Block, Variable, Program, Tree, place, Return}
+use Rattle.files.specs.Program.{Statement, Case, case_of, Terminator, returns, goto, branch, switch, Block, Variable, Program, Tree, place}
+use Rattle.files.specs.declared.kinds.Kind.TheVariants.{Return}
 use Rattle.definition.specs.Question.{Asked, Question, World, cut}
 use Rattle.definition.specs.Act.{Act, done, fail, ask, act, Op, peek_op, poke_op, get_op, set_op, pending_op, leave_op, spend_op, emit_op, End, gave, stopped, ◌>>=◌, Note, no_note, fields_written, value_written, result_unknown, not_followed, Pending}
 use Rattle.definition.specs.State.{State, reply, next, Out, run}

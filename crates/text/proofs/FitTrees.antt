@@ -17,7 +17,10 @@ use Rattle.value.specs.declared.ArithmeticError.{ArithmeticError}
 use Rattle.value.specs.Value.{type, type_of_val, known_val, unknown_val, cast_to}
 use Rattle.value.specs.Operators.{operator_of}
 use Rattle.spelling.specs.Spelling.{type_of, ends_star, before_star}
-use Rattle.files.specs.Program.{Kind, Constant, Var, Register, StringLiteral, FunctionName, ConditionTrue, ConditionFalse, ConstantCondition, Cast, Deref, AddressOf, Ternary, Binary, Assign, Call, Intrinsic, Return, StructInit, Field, Plain, kind_numbered, number_of, Node, Tree, tree, Trees, nil, cons}
+use Rattle.files.specs.Program.{kind_numbered, number_of, Node, Tree, tree, Trees, nil, cons}
+use Rattle.files.proofs.KindLaws.{numbered}
+use Rattle.files.specs.declared.kinds.Kind.{Kind}
+use Rattle.files.specs.declared.kinds.Kind.TheVariants.{Constant, Var, Register, StringLiteral, FunctionName, ConditionTrue, ConditionFalse, ConstantCondition, Cast, Deref, AddressOf, Ternary, Binary, Assign, Call, Intrinsic, Return, StructInit, Field, Plain}
 use Rattle.files.specs.Spells.{size}
 use Rattle.memory.specs.Overlay.{byte_or}
 use Rattle.definition.specs.Question.{Asked, Question, Answer}
@@ -419,29 +422,6 @@ module _ (n : ℕ) where
     f_as Plain d e h c p = f_done nothing_is
 
     -- ---- trees
-
-    numbered : (k : ℕ) → k < 20 → number_of (kind_numbered k) ≡ k
-    numbered zero h = refl
-    numbered (suc zero) h = refl
-    numbered (suc (suc zero)) h = refl
-    numbered (suc (suc (suc zero))) h = refl
-    numbered (suc (suc (suc (suc zero)))) h = refl
-    numbered (suc (suc (suc (suc (suc zero))))) h = refl
-    numbered (suc (suc (suc (suc (suc (suc zero)))))) h = refl
-    numbered (suc (suc (suc (suc (suc (suc (suc zero))))))) h = refl
-    numbered (suc (suc (suc (suc (suc (suc (suc (suc zero)))))))) h = refl
-    numbered (suc (suc (suc (suc (suc (suc (suc (suc (suc zero))))))))) h = refl
-    numbered (suc (suc (suc (suc (suc (suc (suc (suc (suc (suc zero)))))))))) h = refl
-    numbered (suc (suc (suc (suc (suc (suc (suc (suc (suc (suc (suc zero))))))))))) h = refl
-    numbered (suc (suc (suc (suc (suc (suc (suc (suc (suc (suc (suc (suc zero)))))))))))) h = refl
-    numbered (suc (suc (suc (suc (suc (suc (suc (suc (suc (suc (suc (suc (suc zero))))))))))))) h = refl
-    numbered (suc (suc (suc (suc (suc (suc (suc (suc (suc (suc (suc (suc (suc (suc zero)))))))))))))) h = refl
-    numbered (suc (suc (suc (suc (suc (suc (suc (suc (suc (suc (suc (suc (suc (suc (suc zero))))))))))))))) h = refl
-    numbered (suc (suc (suc (suc (suc (suc (suc (suc (suc (suc (suc (suc (suc (suc (suc (suc zero)))))))))))))))) h = refl
-    numbered (suc (suc (suc (suc (suc (suc (suc (suc (suc (suc (suc (suc (suc (suc (suc (suc (suc zero))))))))))))))))) h = refl
-    numbered (suc (suc (suc (suc (suc (suc (suc (suc (suc (suc (suc (suc (suc (suc (suc (suc (suc (suc zero)))))))))))))))))) h = refl
-    numbered (suc (suc (suc (suc (suc (suc (suc (suc (suc (suc (suc (suc (suc (suc (suc (suc (suc (suc (suc zero))))))))))))))))))) h = refl
-    numbered (suc (suc (suc (suc (suc (suc (suc (suc (suc (suc (suc (suc (suc (suc (suc (suc (suc (suc (suc (suc k)))))))))))))))))))) h = absurd (omega arith)
 
     count_looks : (ts : Trees) → count (looks E ts) ≡ size ts
     unfolding looks count size

@@ -1,5 +1,7 @@
 -- The cycle of calls, member by member. Assumes nothing.
-use Rattle.hosting.proofs.Shapes.{room, arg_here, assign_left, assign_right, same_kind, deref_kid, cast_type, binary_left, call_callee, call_args, cast_kid, constant_width, address_kid, intrinsic_kids, kid_here, returned_kid, field_room, field_inside, field_kid, field_type, struct_fields}
+use Rattle.hosting.proofs.Shapes.{room, arg_here, assign_left, assign_right, deref_kid, cast_type, binary_left, call_callee, call_args, cast_kid, constant_width, address_kid, intrinsic_kids, kid_here, returned_kid, field_room, field_inside, field_kid, field_type, struct_fields}
+use Rattle.files.specs.declared.kinds.Kind.TheVariants.{Constant, Var, Register, StringLiteral, FunctionName, ConditionTrue, ConditionFalse, ConstantCondition, Cast, Deref, AddressOf, Ternary, Binary, Assign, Call, Intrinsic, Return, StructInit, Field}
+use Rattle.files.proofs.KindLaws.{of_kind, no_such, found, plain_past, none_above}
 use Rattle.machine.proofs.Assigning.{struct_executes, val_fails, val_executes, write_assigns, odd_assigns, store_fails, store_assigns, assigned_short, assigned_fails, assigned_evals, assigned_tells}
 use Rattle.machine.proofs.Calling.{call_short, args_ready, call_evals}
 use Rattle.machine.proofs.Evaluating.{ready_on, cast_short, cast_evals, alone, constant_evals, var_evals, register_evals, string_evals, function_evals, true_evals, false_evals, decided_evals, address_evals, struct_evals, last_evals, intrinsic_evals, at_hand_evals, returned_nothing, returned_evals}
@@ -14,8 +16,10 @@ use Rattle.machine.proofs.Storing.{odd_struct, base_past, struct_fails, struct_a
 use Rattle.operations.proofs.Targeting.{base_fine, target_fine}
 use borrow.Author.Rules.{rules}
 use borrow.Author.Tests.{not-true, not-false}
-use mathlib.Core.Path.{◌∙◌, ap, refl}
+use mathlib.Core.Path.{◌≡◌, ◌∙◌, ap, refl}
+use Prim.Native.Nat.{◌≤◌}
 use native.Mathlib.Omega.{arith}
+use Rattle.files.specs.Nodes.{kind_of}
 use Rattle.std.proofs.Common.{not}
 use Rattle.machine.proofs.Evaluating.{Valued}
 use Rattle.machine.proofs.+evaluation.Goals as goal
@@ -62,89 +66,92 @@ assign-overflow_add-left t c = search (rules, room)
 pub assign-next-right-requires : goal.assign-next-right-requires
 assign-next-right-requires t c = search (rules, room, assign_left)
 
-pub assign-kind-kind-requires : goal.assign-kind-kind-requires
-assign-kind-kind-requires t c = search (rules, room, assign_right)
+pub assign-is-requires : goal.assign-is-requires
+assign-is-requires t c = search (rules, room, assign_right)
 
 pub assign-assign_struct-requires : goal.assign-assign_struct-requires
-assign-assign_struct-requires t c = (search (rules, first_falls), (search rules, (search (rules, assign_left), (search (rules, assign_right), (search (rules, next_past, assign_left), search (rules, same_kind))))))
+assign-assign_struct-requires t c = (search (rules, first_falls), (search rules, (search (rules, assign_left), (search (rules, assign_right), (search (rules, next_past, assign_left), of_kind c.is.ensures c.if-is.true)))))
 
-pub assign-returns-then-kind-eq-STRUCT_INIT : goal.assign-returns-then-kind-eq-STRUCT_INIT
-assign-returns-then-kind-eq-STRUCT_INIT t c = struct_executes c.requires.of_kind c.next-right.ensures c.kind-kind.ensures c.if-kind-eq-STRUCT_INIT.true c.assign_struct.ensures
+pub assign-returns-then-is : goal.assign-returns-then-is
+assign-returns-then-is t c = struct_executes c.requires.of_kind c.next-right.ensures refl (of_kind c.is.ensures c.if-is.true) c.assign_struct.ensures
 
 pub assign-operand-requires : goal.assign-operand-requires
 assign-operand-requires t c = search (rules, second_falls, assign_right)
 
 pub assign-returns-then-not-operand : goal.assign-returns-then-not-operand
-assign-returns-then-not-operand t c = val_fails c.requires.of_kind c.next-right.ensures c.kind-kind.ensures c.if-kind-eq-STRUCT_INIT.false c.operand.ensures (ap not c.if-not-operand.true)
+assign-returns-then-not-operand t c = val_fails c.requires.of_kind c.next-right.ensures refl (no_such c.is.ensures c.if-is.false) c.operand.ensures (ap not c.if-not-operand.true)
 
 pub assign-assign_val-requires : goal.assign-assign_val-requires
 assign-assign_val-requires t c = (first_falls _ _ 0 0 c.decreases c.requires.fine (omega arith), ((ready_on c.operand.ensures c.requires.ready_by.0 (ap not c.if-not-operand.false) (assign_right c.requires.of_kind c.requires.fine c.next-right.ensures), c.requires.ready_by.1), assign_left c.requires.of_kind c.requires.fine))
 
 pub assign-returns : goal.assign-returns
-assign-returns t c = val_executes c.requires.of_kind c.next-right.ensures c.kind-kind.ensures c.if-kind-eq-STRUCT_INIT.false c.operand.ensures (ap not c.if-not-operand.false) c.assign_val.ensures
+assign-returns t c = val_executes c.requires.of_kind c.next-right.ensures refl (no_such c.is.ensures c.if-is.false) c.operand.ensures (ap not c.if-not-operand.false) c.assign_val.ensures
 
-pub assign_struct-kind-kind-requires : goal.assign_struct-kind-kind-requires
-assign_struct-kind-kind-requires t c = search (rules, room)
+pub assign_struct-is-requires : goal.assign_struct-is-requires
+assign_struct-is-requires t c = search (rules, room)
 
 pub assign_struct-ends-requires : goal.assign_struct-ends-requires
 assign_struct-ends-requires t c = search (rules, room_in)
 
-pub assign_struct-returns-then-kind-ne-DEREF : goal.assign_struct-returns-then-kind-ne-DEREF
-assign_struct-returns-then-kind-ne-DEREF t c = search (rules, odd_struct)
+pub assign_struct-returns-then-not-is : goal.assign_struct-returns-then-not-is
+assign_struct-returns-then-not-is t c = odd_struct refl (no_such c.is.ensures c.if-not-is.true) c.ends.ensures
 
 pub assign_struct-overflow_add-left : goal.assign_struct-overflow_add-left
 assign_struct-overflow_add-left t c = search (rules, room)
 
 pub assign_struct-base-base-requires : goal.assign_struct-base-base-requires
-assign_struct-base-base-requires t c = search (rules, room, deref_kid, same_kind)
+assign_struct-base-base-requires t c = room (deref_kid (of_kind c.is.ensures c.if-not-is.false) c.requires.fine)
 
 pub assign_struct-evaluate-requires : goal.assign_struct-evaluate-requires
-assign_struct-evaluate-requires t c = (search (rules, right_falls, base_past), (search rules, base_fine c.base-base.ensures (deref_kid (same_kind c.kind-kind.ensures c.if-kind-ne-DEREF.false) c.requires.fine)))
+assign_struct-evaluate-requires t c = (search (rules, right_falls, base_past), (search rules, base_fine c.base-base.ensures (deref_kid (of_kind c.is.ensures c.if-not-is.false) c.requires.fine)))
 
 pub assign_struct-returns-then-not-evaluate : goal.assign_struct-returns-then-not-evaluate
-assign_struct-returns-then-not-evaluate t c = struct_fails c.kind-kind.ensures c.if-kind-ne-DEREF.false c.base-base.ensures c.evaluate.ensures.0 (ap not c.if-not-evaluate.true)
+assign_struct-returns-then-not-evaluate t c = struct_fails refl (of_kind c.is.ensures c.if-not-is.false) c.base-base.ensures c.evaluate.ensures.0 (ap not c.if-not-evaluate.true)
 
 pub assign_struct-store_struct-requires : goal.assign_struct-store_struct-requires
-assign_struct-store_struct-requires t c = (right_falls _ _ 0 0 c.decreases c.requires.fine c.requires.left_lt_right (omega arith), ((ready_on c.evaluate.ensures.0 c.requires.ready_by.0 (ap not c.if-not-evaluate.false) (base_fine c.base-base.ensures (deref_kid (same_kind c.kind-kind.ensures c.if-kind-ne-DEREF.false) c.requires.fine)), c.requires.ready_by.1), (c.requires.fine_right, c.requires.right_of_kind)))
+assign_struct-store_struct-requires t c = (right_falls _ _ 0 0 c.decreases c.requires.fine c.requires.left_lt_right (omega arith), ((ready_on c.evaluate.ensures.0 c.requires.ready_by.0 (ap not c.if-not-evaluate.false) (base_fine c.base-base.ensures (deref_kid (of_kind c.is.ensures c.if-not-is.false) c.requires.fine)), c.requires.ready_by.1), (c.requires.fine_right, c.requires.right_of_kind)))
 
 pub assign_struct-returns : goal.assign_struct-returns
-assign_struct-returns t c = struct_assigns c.kind-kind.ensures c.if-kind-ne-DEREF.false c.base-base.ensures c.evaluate.ensures.0 (ap not c.if-not-evaluate.false) c.store_struct.ensures
+assign_struct-returns t c = struct_assigns refl (of_kind c.is.ensures c.if-not-is.false) c.base-base.ensures c.evaluate.ensures.0 (ap not c.if-not-evaluate.false) c.store_struct.ensures
 
 pub assign_val-value-v-requires : goal.assign_val-value-v-requires
 assign_val-value-v-requires t c = (search (rules, room_in), omega arith)
 
-pub assign_val-kind-kind-requires : goal.assign_val-kind-kind-requires
-assign_val-kind-kind-requires t c = search (rules, room)
+pub assign_val-is-requires : goal.assign_val-is-requires
+assign_val-is-requires t c = search (rules, room)
+
+pub assign_val-is-requires-2 : goal.assign_val-is-requires-2
+assign_val-is-requires-2 t c = search (rules, room)
 
 pub assign_val-write-requires : goal.assign_val-write-requires
-assign_val-write-requires t c = record { fit = search rules; symbols_read = search rules; fine = search rules; of_kind = search (rules, same_kind) }
+assign_val-write-requires t c = record { fit = search rules; symbols_read = search rules; fine = search rules; of_kind = of_kind c.is.ensures c.if-is.true }
 
-pub assign_val-returns-then-kind-eq-VAR : goal.assign_val-returns-then-kind-eq-VAR
-assign_val-returns-then-kind-eq-VAR t c = write_assigns c.value-v.ensures c.write.ensures
+pub assign_val-returns-then-is : goal.assign_val-returns-then-is
+assign_val-returns-then-is t c = write_assigns c.value-v.ensures c.write.ensures
 
 pub assign_val-ends-requires : goal.assign_val-ends-requires
 assign_val-ends-requires t c = search (rules, room_in)
 
-pub assign_val-returns-then-kind-ne-DEREF : goal.assign_val-returns-then-kind-ne-DEREF
-assign_val-returns-then-kind-ne-DEREF t c = search (rules, odd_assigns)
+pub assign_val-returns-then-not-is : goal.assign_val-returns-then-not-is
+assign_val-returns-then-not-is t c = odd_assigns refl (no_such c.is.ensures c.if-is.false) (no_such c.is-2.ensures c.if-not-is.true) c.ends.ensures
 
 pub assign_val-overflow_add-target : goal.assign_val-overflow_add-target
 assign_val-overflow_add-target t c = search (rules, room)
 
 pub assign_val-target_of-pointer-requires : goal.assign_val-target_of-pointer-requires
-assign_val-target_of-pointer-requires t c = record { workspace_long = search (rules, room_in); node_inside = room (deref_kid (same_kind c.kind-kind.ensures c.if-kind-ne-DEREF.false) c.requires.fine); n_bound = λ e. cast_type e (deref_kid (same_kind c.kind-kind.ensures c.if-kind-ne-DEREF.false) c.requires.fine) }
+assign_val-target_of-pointer-requires t c = record { workspace_long = search (rules, room_in); node_inside = room (deref_kid (of_kind c.is-2.ensures c.if-not-is.false) c.requires.fine); n_bound = λ e. cast_type e (deref_kid (of_kind c.is-2.ensures c.if-not-is.false) c.requires.fine) }
 
 pub assign_val-evaluate-requires : goal.assign_val-evaluate-requires
-assign_val-evaluate-requires t c = (target_falls _ _ 3 c.decreases c.requires.fine c.target_of-pointer.ensures (omega arith), (c.requires.ready_by, target_fine c.target_of-pointer.ensures (deref_kid (same_kind c.kind-kind.ensures c.if-kind-ne-DEREF.false) c.requires.fine)))
+assign_val-evaluate-requires t c = (target_falls _ _ 3 c.decreases c.requires.fine c.target_of-pointer.ensures (omega arith), (c.requires.ready_by, target_fine c.target_of-pointer.ensures (deref_kid (of_kind c.is-2.ensures c.if-not-is.false) c.requires.fine)))
 
 pub assign_val-returns-then-not-evaluate : goal.assign_val-returns-then-not-evaluate
-assign_val-returns-then-not-evaluate t c = store_fails c.kind-kind.ensures c.if-kind-ne-DEREF.false c.requires.fine c.value-v.ensures c.target_of-pointer.ensures c.evaluate.ensures.0 (ap not c.if-not-evaluate.true)
+assign_val-returns-then-not-evaluate t c = store_fails refl (of_kind c.is-2.ensures c.if-not-is.false) c.requires.fine c.value-v.ensures c.target_of-pointer.ensures c.evaluate.ensures.0 (ap not c.if-not-evaluate.true)
 
 pub assign_val-store-requires : goal.assign_val-store-requires
-assign_val-store-requires t c = (ready_on c.evaluate.ensures.0 c.requires.ready_by.0 (ap not c.if-not-evaluate.false) (target_fine c.target_of-pointer.ensures (deref_kid (same_kind c.kind-kind.ensures c.if-kind-ne-DEREF.false) c.requires.fine))).ready.fit
+assign_val-store-requires t c = (ready_on c.evaluate.ensures.0 c.requires.ready_by.0 (ap not c.if-not-evaluate.false) (target_fine c.target_of-pointer.ensures (deref_kid (of_kind c.is-2.ensures c.if-not-is.false) c.requires.fine))).ready.fit
 
 pub assign_val-returns : goal.assign_val-returns
-assign_val-returns t c = store_assigns c.kind-kind.ensures c.if-kind-ne-DEREF.false c.requires.fine c.value-v.ensures c.target_of-pointer.ensures c.evaluate.ensures.0 c.store.result (ap not c.if-not-evaluate.false) c.store.ensures
+assign_val-returns t c = store_assigns refl (of_kind c.is-2.ensures c.if-not-is.false) c.requires.fine c.value-v.ensures c.target_of-pointer.ensures c.evaluate.ensures.0 c.store.result (ap not c.if-not-evaluate.false) c.store.ensures
 
 pub assigned-assign-requires : goal.assigned-assign-requires
 assigned-assign-requires t c = search (rules, assign_falls)
@@ -262,14 +269,14 @@ deref-load_at-requires t c = let ready = (deref_ready c.requires.of_kind c.requi
 pub deref-returns : goal.deref-returns
 deref-returns t c = deref_loads c.requires.of_kind c.requires.fine c.target_of-pointer.ensures c.operand.ensures (ap not c.if-not-operand.false) c.value-address.ensures c.if-not-address.false c.load_at.ensures
 
-pub evaluate-kind-kind-requires : goal.evaluate-kind-kind-requires
-evaluate-kind-kind-requires t c = search (rules, room)
+pub evaluate-kind-requires : goal.evaluate-kind-requires
+evaluate-kind-requires t c = search (rules, room)
 
 pub evaluate-constant-requires : goal.evaluate-constant-requires
-evaluate-constant-requires t c = search (rules, room, constant_width)
+evaluate-constant-requires t c = record { workspace_long = search rules; node_inside = room c.requires.fine; n_bound = constant_width refl (found Constant (omega arith) c.in-Constant.ensures) c.requires.fine }
 
 pub evaluate-variable-requires : goal.evaluate-variable-requires
-evaluate-variable-requires t c = search (rules, same_kind)
+evaluate-variable-requires t c = record { ready_in = search rules; fine = c.requires.fine; of_kind = found Var (omega arith) c.in-Var.ensures }
 
 pub evaluate-register-requires : goal.evaluate-register-requires
 evaluate-register-requires t c = search (rules, room)
@@ -278,91 +285,98 @@ pub evaluate-decided-requires : goal.evaluate-decided-requires
 evaluate-decided-requires t c = search (rules, room)
 
 pub evaluate-cast-requires : goal.evaluate-cast-requires
-evaluate-cast-requires t c = (search (rules, kind_falls), (search rules, (search rules, search (rules, same_kind))))
+evaluate-cast-requires t c = (search (rules, kind_falls), (search rules, (search rules, found Cast (omega arith) c.in-Cast.ensures)))
 
 pub evaluate-deref-requires : goal.evaluate-deref-requires
-evaluate-deref-requires t c = (search (rules, kind_falls), (search rules, (search rules, search (rules, same_kind))))
+evaluate-deref-requires t c = (search (rules, kind_falls), (search rules, (search rules, found Deref (omega arith) c.in-Deref.ensures)))
 
 pub evaluate-overflow_add-n : goal.evaluate-overflow_add-n
 evaluate-overflow_add-n t c = search (rules, room)
 
 pub evaluate-address-requires : goal.evaluate-address-requires
-evaluate-address-requires t c = record { workspace_long = search rules; symbols_read = c.requires.ready_by.0.ready.symbols; fine = search (rules, address_kid, same_kind) }
+evaluate-address-requires t c = record { workspace_long = search rules; symbols_read = c.requires.ready_by.0.ready.symbols; fine = address_kid (found AddressOf (omega arith) c.in-AddressOf.ensures) c.requires.fine }
 
 pub evaluate-ternary-requires : goal.evaluate-ternary-requires
-evaluate-ternary-requires t c = (search (rules, kind_falls), (search rules, (search rules, search (rules, same_kind))))
+evaluate-ternary-requires t c = (search (rules, kind_falls), (search rules, (search rules, found Ternary (omega arith) c.in-Ternary.ensures)))
 
 pub evaluate-binary-requires : goal.evaluate-binary-requires
-evaluate-binary-requires t c = (search (rules, kind_falls), (search rules, (search rules, search (rules, same_kind))))
+evaluate-binary-requires t c = (search (rules, kind_falls), (search rules, (search rules, found Binary (omega arith) c.in-Binary.ensures)))
 
 pub evaluate-assigned-requires : goal.evaluate-assigned-requires
-evaluate-assigned-requires t c = (search (rules, assigned_falls), (search rules, (search rules, search (rules, same_kind))))
+evaluate-assigned-requires t c = (search (rules, assigned_falls), (search rules, (search rules, found Assign (omega arith) c.in-Assign.ensures)))
 
 pub evaluate-call-requires : goal.evaluate-call-requires
-evaluate-call-requires t c = (search (rules, kind_falls), (search rules, (search rules, search (rules, same_kind))))
+evaluate-call-requires t c = (search (rules, kind_falls), (search rules, (search rules, found Call (omega arith) c.in-Call.ensures)))
 
 pub evaluate-intrinsic-requires : goal.evaluate-intrinsic-requires
-evaluate-intrinsic-requires t c = (search (rules, kind_falls), (search rules, (search rules, search (rules, same_kind))))
+evaluate-intrinsic-requires t c = (search (rules, kind_falls), (search rules, (search rules, found Intrinsic (omega arith) c.in-Intrinsic.ensures)))
 
 pub evaluate-returned-requires : goal.evaluate-returned-requires
-evaluate-returned-requires t c = (search (rules, kind_falls), (search rules, (search rules, search (rules, same_kind))))
+evaluate-returned-requires t c = (search (rules, kind_falls), (search rules, (search rules, found Return (omega arith) c.in-Return.ensures)))
 
-pub evaluate-returns-in-0 : goal.evaluate-returns-in-0
-evaluate-returns-in-0 t c = alone 0 refl (search (rules, same_kind)) (search (rules, constant_evals))
+pub evaluate-returns-in-Constant : goal.evaluate-returns-in-Constant
+evaluate-returns-in-Constant t c = alone 0 refl (found Constant (omega arith) c.in-Constant.ensures) (constant_evals refl (found Constant (omega arith) c.in-Constant.ensures) (search rules))
 
-pub evaluate-returns-in-1 : goal.evaluate-returns-in-1
-evaluate-returns-in-1 t c = alone 1 refl (search (rules, same_kind)) (search (rules, var_evals))
+pub evaluate-returns-in-Var : goal.evaluate-returns-in-Var
+evaluate-returns-in-Var t c = alone 1 refl (found Var (omega arith) c.in-Var.ensures) (var_evals refl (found Var (omega arith) c.in-Var.ensures) (search rules))
 
-pub evaluate-returns-in-2 : goal.evaluate-returns-in-2
-evaluate-returns-in-2 t c = alone 2 refl (search (rules, same_kind)) (search (rules, register_evals))
+pub evaluate-returns-in-Register : goal.evaluate-returns-in-Register
+evaluate-returns-in-Register t c = alone 2 refl (found Register (omega arith) c.in-Register.ensures) (register_evals refl (found Register (omega arith) c.in-Register.ensures) (search rules))
 
-pub evaluate-returns-in-3 : goal.evaluate-returns-in-3
-evaluate-returns-in-3 t c = alone 3 refl (search (rules, same_kind)) (search (rules, string_evals))
+pub evaluate-returns-in-StringLiteral : goal.evaluate-returns-in-StringLiteral
+evaluate-returns-in-StringLiteral t c = alone 3 refl (found StringLiteral (omega arith) c.in-StringLiteral.ensures) (string_evals refl (found StringLiteral (omega arith) c.in-StringLiteral.ensures) (search rules))
 
-pub evaluate-returns-in-4 : goal.evaluate-returns-in-4
-evaluate-returns-in-4 t c = alone 4 refl (search (rules, same_kind)) (search (rules, function_evals))
+pub evaluate-returns-in-FunctionName : goal.evaluate-returns-in-FunctionName
+evaluate-returns-in-FunctionName t c = alone 4 refl (found FunctionName (omega arith) c.in-FunctionName.ensures) (function_evals refl (found FunctionName (omega arith) c.in-FunctionName.ensures) (search rules))
 
-pub evaluate-returns-in-5 : goal.evaluate-returns-in-5
-evaluate-returns-in-5 t c = alone 5 refl (search (rules, same_kind)) (search (rules, true_evals))
+pub evaluate-returns-in-ConditionTrue : goal.evaluate-returns-in-ConditionTrue
+evaluate-returns-in-ConditionTrue t c = alone 5 refl (found ConditionTrue (omega arith) c.in-ConditionTrue.ensures) (true_evals refl (found ConditionTrue (omega arith) c.in-ConditionTrue.ensures) (search rules))
 
-pub evaluate-returns-in-6 : goal.evaluate-returns-in-6
-evaluate-returns-in-6 t c = alone 6 refl (search (rules, same_kind)) (search (rules, false_evals))
+pub evaluate-returns-in-ConditionFalse : goal.evaluate-returns-in-ConditionFalse
+evaluate-returns-in-ConditionFalse t c = alone 6 refl (found ConditionFalse (omega arith) c.in-ConditionFalse.ensures) (false_evals refl (found ConditionFalse (omega arith) c.in-ConditionFalse.ensures) (search rules))
 
-pub evaluate-returns-in-7 : goal.evaluate-returns-in-7
-evaluate-returns-in-7 t c = alone 7 refl (search (rules, same_kind)) (search (rules, decided_evals))
+pub evaluate-returns-in-ConstantCondition : goal.evaluate-returns-in-ConstantCondition
+evaluate-returns-in-ConstantCondition t c = alone 7 refl (found ConstantCondition (omega arith) c.in-ConstantCondition.ensures) (decided_evals refl (found ConstantCondition (omega arith) c.in-ConstantCondition.ensures) (search rules))
 
-pub evaluate-returns-in-8 : goal.evaluate-returns-in-8
-evaluate-returns-in-8 t c = alone 8 refl (search (rules, same_kind)) (search rules)
+pub evaluate-returns-in-Cast : goal.evaluate-returns-in-Cast
+evaluate-returns-in-Cast t c = alone 8 refl (found Cast (omega arith) c.in-Cast.ensures) (search rules)
 
-pub evaluate-returns-in-9 : goal.evaluate-returns-in-9
-evaluate-returns-in-9 t c = alone 9 refl (search (rules, same_kind)) (search rules)
+pub evaluate-returns-in-Deref : goal.evaluate-returns-in-Deref
+evaluate-returns-in-Deref t c = alone 9 refl (found Deref (omega arith) c.in-Deref.ensures) (search rules)
 
-pub evaluate-returns-in-10 : goal.evaluate-returns-in-10
-evaluate-returns-in-10 t c = alone 10 refl (search (rules, same_kind)) (search (rules, address_evals))
+pub evaluate-returns-in-AddressOf : goal.evaluate-returns-in-AddressOf
+evaluate-returns-in-AddressOf t c = alone 10 refl (found AddressOf (omega arith) c.in-AddressOf.ensures) (address_evals refl (found AddressOf (omega arith) c.in-AddressOf.ensures) (search rules))
 
-pub evaluate-returns-in-11 : goal.evaluate-returns-in-11
-evaluate-returns-in-11 t c = alone 11 refl (search (rules, same_kind)) (search rules)
+pub evaluate-returns-in-Ternary : goal.evaluate-returns-in-Ternary
+evaluate-returns-in-Ternary t c = alone 11 refl (found Ternary (omega arith) c.in-Ternary.ensures) (search rules)
 
-pub evaluate-returns-in-12 : goal.evaluate-returns-in-12
-evaluate-returns-in-12 t c = alone 12 refl (search (rules, same_kind)) (search rules)
+pub evaluate-returns-in-Binary : goal.evaluate-returns-in-Binary
+evaluate-returns-in-Binary t c = alone 12 refl (found Binary (omega arith) c.in-Binary.ensures) (search rules)
 
-pub evaluate-returns-in-13 : goal.evaluate-returns-in-13
-evaluate-returns-in-13 t c = (search rules, λ _. search rules)
+pub evaluate-returns-in-Assign : goal.evaluate-returns-in-Assign
+evaluate-returns-in-Assign t c = (search rules, λ _. search rules)
 
-pub evaluate-returns-in-14 : goal.evaluate-returns-in-14
-evaluate-returns-in-14 t c = alone 14 refl (search (rules, same_kind)) (search rules)
+pub evaluate-returns-in-Call : goal.evaluate-returns-in-Call
+evaluate-returns-in-Call t c = alone 14 refl (found Call (omega arith) c.in-Call.ensures) (search rules)
 
-pub evaluate-returns-in-15 : goal.evaluate-returns-in-15
-evaluate-returns-in-15 t c = alone 15 refl (search (rules, same_kind)) (search rules)
+pub evaluate-returns-in-Intrinsic : goal.evaluate-returns-in-Intrinsic
+evaluate-returns-in-Intrinsic t c = alone 15 refl (found Intrinsic (omega arith) c.in-Intrinsic.ensures) (search rules)
 
-pub evaluate-returns-in-16 : goal.evaluate-returns-in-16
-evaluate-returns-in-16 t c = alone 16 refl (search (rules, same_kind)) (search rules)
+pub evaluate-returns-in-Return : goal.evaluate-returns-in-Return
+evaluate-returns-in-Return t c = alone 16 refl (found Return (omega arith) c.in-Return.ensures) (search rules)
 
-pub evaluate-returns-in-17 : goal.evaluate-returns-in-17
-evaluate-returns-in-17 t c = alone 17 refl (search (rules, same_kind)) (search (rules, struct_evals))
+pub evaluate-returns-in-StructInit : goal.evaluate-returns-in-StructInit
+evaluate-returns-in-StructInit t c = alone 17 refl (found StructInit (omega arith) c.in-StructInit.ensures) (struct_evals refl (found StructInit (omega arith) c.in-StructInit.ensures) (search rules))
 
-pub evaluate-returns-in_default : goal.evaluate-returns-in_default
-evaluate-returns-in_default t c = last_evals c.kind-kind.ensures c.requires.fine (search rules) c.unknown-in_default.ensures
+pub evaluate-returns-in-Field : goal.evaluate-returns-in-Field
+evaluate-returns-in-Field t c =
+    let k : kind_of c.args.reads.now.nodes.now c.args.n ≡ 18 = found Field (omega arith) c.in-Field.ensures in
+    last_evals refl c.requires.fine (none_above 18 _ (omega arith)) c.unknown-in-Field.ensures
+
+pub evaluate-returns-in-Plain : goal.evaluate-returns-in-Plain
+evaluate-returns-in-Plain t c =
+    let k : 19 ≤ kind_of c.args.reads.now.nodes.now c.args.n = plain_past c.in-Plain.ensures in
+    last_evals refl c.requires.fine (none_above 18 _ (omega arith)) c.unknown-in-Plain.ensures
 
 pub intrinsic-next-end-requires : goal.intrinsic-next-end-requires
 intrinsic-next-end-requires t c = search (rules, room)

@@ -8,4 +8,4 @@ returns-then-b-n c = simp (le-ltb _ _ c.if-b-n.true)
 
 pub returns : goal.returns
 unfolding root_ok
-returns c = simp (lt-ltb _ _ c.if-b-n.false, ← c.kind.ensures)
+returns c = simp (lt-ltb _ _ c.if-b-n.false, c.is.ensures)

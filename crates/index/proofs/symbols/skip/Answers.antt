@@ -1,8 +1,7 @@
 -- `skip` meets its contract. Assumes nothing.
-use mathlib.Core.Path.{refl, ap, ◌∙◌}
-use Prim.Native.Nat.{ℕ}
+use mathlib.Core.Path.{refl}
 use native.Mathlib.Omega.{arith}
-use Rattle.index.specs.Places.{place_from, text_size}
+use Rattle.index.specs.Places.{place_from}
 use Rattle.index.proofs.TextIndex.{skip_inside, skip_next}
 use Rattle.index.proofs.symbols.skip.Goals as goal
 
@@ -21,6 +20,3 @@ overflow_add-place-in-loop-step c = record { fits = omega (arith, c.get.ensures.
 
 pub loop-step-preserved : goal.loop-step-preserved
 loop-step-preserved c = skip_next c.args.names.now c.args.at c.loop-step._step c.args.steps c.loop-step-test.true c.loop-step.invariant c.get.ensures.number
-
-pub returns : goal.returns
-returns c = c.loop-step.invariant ∙ ap (λ (k : ℕ). place_from (text_size c.args.names.now) c.args.at k) (omega arith)

@@ -1,15 +1,16 @@
-use Rattle.std.proofs.Common.{sym, ◌∙◌, arith, rules}
+use Rattle.std.proofs.Common.{refl, arith}
+use Rattle.files.proofs.KindLaws.{of_kind, no_such}
 use Rattle.operations.proofs.Targeting.{targets_other, targets_under, targets_cast}
 use Rattle.operations.proofs.places.target_of.Goals as goal
 
 pub pointee-requires : goal.pointee-requires
-pointee-requires c = (c.requires.workspace_long, omega (arith, c.requires.n_bound (sym c.kind-kind.ensures ∙ c.if-kind-eq-CAST.true)))
+pointee-requires c = (c.requires.workspace_long, omega (arith, c.requires.n_bound (of_kind c.is.ensures c.if-is.true)))
 
 pub returns-in-Some : goal.returns-in-Some
-returns-in-Some c = search (rules, targets_under)
+returns-in-Some c = targets_under _ _ _ _ _ refl (of_kind c.is.ensures c.if-is.true) _ c.reference.ensures.0 _ c.pointee.ensures _ c.in-Some.is refl refl
 
 pub returns-in_default : goal.returns-in_default
-returns-in_default c = search (rules, targets_cast)
+returns-in_default c = targets_cast _ _ _ _ _ refl (of_kind c.is.ensures c.if-is.true) _ c.reference.ensures.0 _ c.pointee.ensures c.in_default.is refl refl
 
-pub returns-else-kind-eq-CAST : goal.returns-else-kind-eq-CAST
-returns-else-kind-eq-CAST c = search (rules, targets_other)
+pub returns-else-is : goal.returns-else-is
+returns-else-is c = targets_other _ _ _ _ _ refl (no_such c.is.ensures c.if-is.false) refl refl

@@ -1,5 +1,5 @@
 -- `find_name` meets its contract. The loop's invariant: no name before the one at the place has the text. Assumes nothing.
-use Rattle.setup.proofs.NameSearch.{seek_none, seek_inside, seek_room, seek_on, seek_found, seek_done}
+use Rattle.setup.proofs.NameSearch.{seek_none, seek_inside, seek_on, seek_found, seek_done}
 use borrow.Author.Rules.{rules}
 use Rattle.setup.proofs.texts.find_name.Goals as goal
 
@@ -11,15 +11,6 @@ text_at-name-requires c = search (rules, seek_inside)
 
 pub returns-then-eq : goal.returns-then-eq
 returns-then-eq c = search (rules, seek_found)
-
-pub overflow_add-at : goal.overflow_add-at
-overflow_add-at c = search (rules, seek_room)
-
-pub overflow_add-at-in-loop-at : goal.overflow_add-at-in-loop-at
-overflow_add-at-in-loop-at c = search (rules, seek_room)
-
-pub loop-at-smaller : goal.loop-at-smaller
-loop-at-smaller c = search (rules, seek_room)
 
 pub loop-at-preserved : goal.loop-at-preserved
 loop-at-preserved c = search (rules, seek_on)

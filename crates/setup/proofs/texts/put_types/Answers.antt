@@ -1,6 +1,6 @@
 -- `put_types` meets its contract. The loop's invariant: the first i types are put. Assumes nothing.
 use Rattle.setup.proofs.TypeLaws.{coded_type}
-use Rattle.setup.proofs.SpellLaws.{spell_none, spell_few, spell_inside, coded_pointee, spell_room, spell_more, spell_done}
+use Rattle.setup.proofs.SpellLaws.{spell_none, spell_few, spell_inside, coded_pointee, spell_more, spell_done}
 use borrow.Author.Rules.{rules}
 use Rattle.setup.proofs.texts.put_types.Goals as goal
 
@@ -12,15 +12,6 @@ text_at-text-requires c = search (rules, spell_inside)
 
 pub put_type-requires : goal.put_type-requires
 put_type-requires c = search (rules, spell_few, coded_type, coded_pointee)
-
-pub overflow_add-at : goal.overflow_add-at
-overflow_add-at c = search (rules, spell_room)
-
-pub overflow_add-at-in-loop-at : goal.overflow_add-at-in-loop-at
-overflow_add-at-in-loop-at c = search (rules, spell_room)
-
-pub loop-at-smaller : goal.loop-at-smaller
-loop-at-smaller c = search (rules, spell_room)
 
 pub loop-at-preserved : goal.loop-at-preserved
 loop-at-preserved c = spell_more c.requires.0 c.loop-at.invariant c.loop-at-test.true c.text_at-text.ensures

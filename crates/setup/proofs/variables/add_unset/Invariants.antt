@@ -6,4 +6,4 @@ use Rattle.setup.specs.Post.{EndsSome}
 use Rattle.setup.proofs.variables.add_unset.Given as goal
 
 abbrev pub invariant-loop-k : goal.invariant-loop-k
-invariant-loop-k l = (l.k ≤ l.count) × ((l.count ≡ variable_count l.head) × EndsSome l.head l.k l.initial.ws l.ws)
+invariant-loop-k l = (l.k ≤ l.count) × ((l.count ≡ variable_count l.head.bytes.now) × EndsSome l.head.bytes.now l.k l.initial.ws l.ws)

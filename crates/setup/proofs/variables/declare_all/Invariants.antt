@@ -6,4 +6,4 @@ use Rattle.setup.specs.Post.{DeclaresSome}
 use Rattle.setup.proofs.variables.declare_all.Given as goal
 
 abbrev pub invariant-loop-k : goal.invariant-loop-k
-invariant-loop-k l = (l.k ≤ l.count) × ((l.count ≡ variable_count l.head) × DeclaresSome l.head l.k l.initial.ws l.ws)
+invariant-loop-k l = (l.k ≤ l.count) × ((l.count ≡ variable_count l.head.bytes.now) × DeclaresSome l.head.bytes.now l.k l.initial.ws l.ws)

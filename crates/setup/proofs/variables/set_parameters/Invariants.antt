@@ -6,4 +6,4 @@ use Rattle.setup.specs.Post.{StartsSome}
 use Rattle.setup.proofs.variables.set_parameters.Given as goal
 
 abbrev pub invariant-loop-k : goal.invariant-loop-k
-invariant-loop-k l = (l.k ≤ l.count) × ((l.count ≡ parameter_count l.head) × ((l.count ≤ variable_count l.head) × StartsSome l.head l.call l.k l.initial.ws l.ws))
+invariant-loop-k l = (l.k ≤ l.count) × ((l.count ≡ parameter_count l.head.bytes.now) × ((l.count ≤ variable_count l.head.bytes.now) × StartsSome l.head.bytes.now l.call l.k l.initial.ws l.ws))
