@@ -12,19 +12,19 @@ use lib.ListN.{length, replicate}
 use Rattle.value.specs.declared.Val.{Val}
 use Rattle.files.specs.declared.refusal.Refusal.{Refusal}
 use Rattle.files.specs.declared.refusal.Refusal.TheVariants.{Workspace}
-use Rattle.files.specs.Refusal.{constant_refusal, refusal_number, refused, or_else}
+use Rattle.files.specs.Refusal.{constant_refusal, refusal_number, or_else}
 use Rattle.files.proofs.RefusalLaws.{or_refusal}
 use Rattle.definition.specs.Act.{End, gave, stopped}
 use Rattle.definition.specs.Run.{address_limit, workspace_needed}
 use Rattle.definition.specs.Constant.{constant_run, known_only, constant_value}
-use Rattle.definition.specs.Answered.{zeroed, val_of, val_or, ConstantAnswered}
+use Rattle.definition.specs.Answered.{zeroed, val_or, ConstantAnswered}
 use Rattle.definition.proofs.Answered.{constant_refused, constant_by_workspace, constant_by_addresses, constant_given_lem}
 use Rattle.stream.specs.Bodies.{why_of}
 use Rattle.hosting.specs.declared.Short.{Short}
 use Rattle.hosting.specs.declared.Short.TheVariants.{Full, Why}
 use Rattle.hosting.specs.Ending.{end_of}
 use Rattle.passes.specs.Evaluating.{EvaluatedIf, Evaluates}
-use Rattle.emulate.specs.Giving.{answer_of, value_in, ConstantGiven}
+use Rattle.emulate.specs.Giving.{answer_of, ConstantGiven}
 
 then_known : (b : Bool) (v : Val) → elim b [ true ↦ Some v | false ↦ None ] ≡ then_some b v
 then_known true v = refl
@@ -69,11 +69,3 @@ module _ (routine : List ℕ) (node : ℕ) (workspace₀ : List ℕ) where
     -- 20
     pub constant_20 : constant_refusal routine node ≡ 0 → e ≡ Workspace → length workspace₀ < workspace_needed → ConstantGiven routine node workspace₀ r workspace₀
     constant_20 ok w l = exits_as 20 (ap refusal_number w) (constant_by_workspace routine node workspace₀ ok l)
-
-  -- ---- the fields that a caller gets
-
-  pub given_fields : (r : Result (Option Val) Refusal) (n : ℕ) (known signed : Bool) (bits number : ℕ) (w : List ℕ) → (n ≡ refused r) × (val_of known signed bits number ≡ value_in r)
-      → ConstantGiven routine node workspace₀ r w → ConstantAnswered routine node workspace₀ n known signed bits number w
-  given_fields r n known signed bits number w h g =
-      subst (λ (k : ℕ). ConstantAnswered routine node workspace₀ k known signed bits number w) (sym h.0)
-      (subst (λ (v : Val). ConstantAnswered routine node workspace₀ (refused r) v.known v.signed v.bits v.number w) (sym h.1) g)

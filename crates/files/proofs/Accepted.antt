@@ -22,7 +22,8 @@ use Rattle.files.specs.Call.{call_body_ok}
 use Rattle.files.specs.Refusal.{names_of, types_of, world_ok, call_ok, first, bodies_refusal, routine_refusal, or_else, refusal, constant_refusal}
 use Rattle.files.specs.Program.{tree, node_of}
 use Rattle.files.specs.Spells.{node_at, Fine, Accepted}
-use Rattle.files.proofs.BoolLaws.{both, AllTrue, each_true}
+use Rattle.std.proofs.lemmas.Bool.{and_parts}
+use Rattle.files.proofs.BoolLaws.{AllTrue, each_true}
 use Rattle.files.proofs.ItemLaws.{every_at}
 use Rattle.files.proofs.TableLaws.{has_body}
 use Rattle.files.proofs.Forest.{stands}
@@ -54,7 +55,7 @@ bodies names types head nodes statements blocks h =
     let a = first_none 2
     (leb 1 (names_in names) ∷ leb 1 (types_in types) ∷ head_ok head (names_of names) (types_of types) ∷ fields_ok nodes (names_of names) (types_of types) ∷ trees_ok nodes ∷ (s && b) ∷ [])
     (omega arith) h in
-    let l = both s b a.1.1.1.1.1.0 in
+    let l = and_parts s b a.1.1.1.1.1.0 in
     record {
       named = a.0;
       typed = a.1.0;
@@ -100,7 +101,7 @@ pub call : (c : List ℕ) → call_ok c ≡ true → Call c
 unfolding call_ok call_body_ok
 call c h =
     let b = body c 0 in
-    let k = both (table_ok 1 c) (leb 8 (length b) && leb (length b) 136 && eqb (length b % 8) 0 && leb (number_at b 0 4) 1_000_000 && leb (number_at b 4 4) 255) h in
+    let k = and_parts (table_ok 1 c) (leb 8 (length b) && leb (length b) 136 && eqb (length b % 8) 0 && leb (number_at b 0 4) 1_000_000 && leb (number_at b 4 4) 255) h in
     let t = each_true (leb 8 (length b)) (leb (length b) 136 ∷ eqb (length b % 8) 0 ∷ leb (number_at b 0 4) 1_000_000 ∷ leb (number_at b 4 4) 255 ∷ []) k.1 in
     record {
       table = k.0;
@@ -165,18 +166,18 @@ module _ {b : List ℕ} {names types : ℕ} (a : Accepted b names types) where
 
   pub root_fine : (n : ℕ) → root_ok b n ≡ true → Fine b n
   unfolding root_ok
-  root_fine n h = fine n (ltb-true _ _ (both (ltb n (length b / 20)) (not (eqb (kind_of b n) 18)) h).0)
+  root_fine n h = fine n (ltb-true _ _ (and_parts (ltb n (length b / 20)) (not (eqb (kind_of b n) 18)) h).0)
 
 pub root_no_field : (b : List ℕ) (n : ℕ) → root_ok b n ≡ true → kind_of b n ≡ 18 → ⊥
 unfolding root_ok
-root_no_field b n h = eqb-false (kind_of b n) 18 (not-true _ (both (ltb n (length b / 20)) (not (eqb (kind_of b n) 18)) h).1)
+root_no_field b n h = eqb-false (kind_of b n) 18 (not-true _ (and_parts (ltb n (length b / 20)) (not (eqb (kind_of b n) 18)) h).1)
 
 -- the root of a statement
 pub statement_root : (nodes statements : List ℕ) → statements_ok nodes statements ≡ true → (k : ℕ) → k < length statements / 13 → root_ok nodes (number_at statements (k * 13 + 9) 4) ≡ true
 unfolding statements_ok statement_ok
 statement_root nodes statements h k l =
-    let e = (both (eqb (length statements % 13) 0) (every (length statements / 13) (statement_ok nodes statements)) h).1 in
-    (both (address_ok (get_or statements (k * 13) 0) (number_at statements (k * 13 + 1) 8)) (root_ok nodes (number_at statements (k * 13 + 9) 4))
+    let e = (and_parts (eqb (length statements % 13) 0) (every (length statements / 13) (statement_ok nodes statements)) h).1 in
+    (and_parts (address_ok (get_or statements (k * 13) 0) (number_at statements (k * 13 + 1) 8)) (root_ok nodes (number_at statements (k * 13 + 9) 4))
     (every_at (statement_ok nodes statements) (length statements / 13) k e l)).1
 
 -- the root of a Branch and of a Switch

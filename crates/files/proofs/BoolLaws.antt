@@ -1,17 +1,13 @@
--- Tests joined by `&&`, and what `!t` shows of a test. Assumes nothing.
-use mathlib.Core.Path.{◌≡◌, refl, sym, ap, ◌∙◌}
-use mathlib.Core.Bool.{Bool, true, false, not, ◌&&◌}
+-- Tests joined by `&&`, and tests as numbers. Assumes nothing.
+use mathlib.Core.Path.{◌≡◌, refl, sym, ap}
+use mathlib.Core.Bool.{Bool, true, false, ◌&&◌}
 use mathlib.Core.List.{List, [], ◌∷◌}
 use Prim.Native.Nat.{ℕ, ◌+◌}
 use native.Mathlib.Omega.{arith}
 use lib.Dec.{leb}
 use Rattle.files.specs.Bytes.{only}
-use borrow.Author.Tests.{le-leb, not-true, not-false}
-
-pub both : (a b : Bool) → (a && b) ≡ true → (a ≡ true) × (b ≡ true)
-both true b e = (refl, e)
-both false true e = (e, refl)
-both false false e = (e, e)
+use borrow.Author.Tests.{le-leb}
+use Rattle.std.proofs.lemmas.Bool.{and_parts}
 
 abbrev pub AllTrue : List Bool → Type 0
 AllTrue [] = Unit {0}
@@ -25,13 +21,7 @@ joined t (u ∷ us) = joined (t && u) us
 -- where they hold together each one holds
 pub each_true : (t : Bool) (ts : List Bool) → joined t ts ≡ true → AllTrue (t ∷ ts)
 each_true t [] e = (e, tt)
-each_true t (u ∷ us) e = let r = each_true (t && u) us e in let b = both t u r.0 in (b.0, (b.1, r.1))
-
-pub said_no : (t u : Bool) → t ≡ u → not t ≡ true → u ≡ false
-said_no t u e h = sym e ∙ not-true t h
-
-pub said_yes : (t u : Bool) → t ≡ u → not t ≡ false → u ≡ true
-said_yes t u e h = sym e ∙ not-false t h
+each_true t (u ∷ us) e = let r = each_true (t && u) us e in let b = and_parts t u r.0 in (b.0, (b.1, r.1))
 
 -- a length that a test let stand
 pub only_there : (t : Bool) (v : ℕ) → (only t v ≡ 0 → ⊥) → (t ≡ true) × (only t v ≡ v)

@@ -12,7 +12,8 @@ use lib.ListN.{length}
 use Rattle.files.specs.Nodes.{kind_of, span_of, node_ok, count_ok, trees_from, trees, trees_ok, rule_of, top}
 use Rattle.files.specs.Program.{tree, Trees, nil, cons, node_of}
 use Rattle.files.specs.Spells.{Inside, node_at, KidsAt, no_kid, a_kid, size, heights, Under, under_none, under_some}
-use Rattle.files.proofs.BoolLaws.{both, each_true}
+use Rattle.std.proofs.lemmas.Bool.{and_parts}
+use Rattle.files.proofs.BoolLaws.{each_true}
 use Rattle.files.proofs.TreeLaws.{Placed, node_placed, turn, one_turn}
 
 -- the trees side by side from n up to e, k of them, with no numbers in the way
@@ -158,7 +159,7 @@ pub stands : (b : List ℕ) → trees_ok b ≡ true → (n : ℕ) → n < length
 unfolding trees_ok trees
 stands b h n l =
     let c = length b / 20 in
-    let t = both (eqb (length b % 20) 0) (leb 1 (trees_from (suc (length b)) b 64 top 0 c 0)) h in
+    let t = and_parts (eqb (length b % 20) 0) (leb 1 (trees_from (suc (length b)) b 64 top 0 c 0)) h in
     let p = pred_of (trees_from (suc (length b)) b 64 top 0 c 0) (leb-true _ _ t.1) in
     let w = grow b (suc (length b)) 64 top 0 c 0 p.y (omega arith) p.is in
     let g = grows c 64 w.forest (omega arith) (omega arith) n (omega arith) l in

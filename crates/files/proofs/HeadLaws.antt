@@ -11,7 +11,8 @@ use Rattle.layout.specs.Number.{number_at}
 use Rattle.files.specs.Items.{every}
 use Rattle.files.specs.Head.{variable_ok, fixed_ok, head_ok}
 use Rattle.files.proofs.ItemLaws.{every_fails, every_at}
-use Rattle.files.proofs.BoolLaws.{both, each_true}
+use Rattle.std.proofs.lemmas.Bool.{and_parts}
+use Rattle.files.proofs.BoolLaws.{each_true}
 
 module _ (b : List ℕ) (names types : ℕ) where
   pub head_short : length b < 13 → false ≡ head_ok b names types
@@ -56,6 +57,6 @@ head_has b names types h =
       few = leb-true _ _ f.1.1.1.0;
       there = leb-true _ _ f.1.1.1.1.0;
       variables = λ k l.
-          let v = both (ltb (number_at b (k * 4 + 13) 2) names) (ltb (number_at b (k * 4 + 15) 2) types) (every_at (variable_ok b names types) (rest / 4) k t.1.1.0 l) in
+          let v = and_parts (ltb (number_at b (k * 4 + 13) 2) names) (ltb (number_at b (k * 4 + 15) 2) types) (every_at (variable_ok b names types) (rest / 4) k t.1.1.0 l) in
           (ltb-true _ _ v.0, ltb-true _ _ v.1);
     }

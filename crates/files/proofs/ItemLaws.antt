@@ -7,7 +7,7 @@ use native.Mathlib.Numerals.{add-one}
 use native.Mathlib.Omega.{arith}
 use borrow.Author.Tests.{le-leb, lt-leb, leb-false, ltb-true, ltb-false, not-true, not-false}
 use lib.Dec.{leb, ltb}
-use Rattle.std.specs.Prelude.{None, Some, is_some}
+use Rattle.std.specs.Prelude.{None, Some}
 use Rattle.files.specs.Bytes.{one_less}
 use Rattle.files.specs.World.{unless_zero}
 use Rattle.files.specs.Items.{Items, past, reading, read_from, every}
@@ -82,10 +82,6 @@ one_less_none (suc t) e = cc
 pub one_less_some : (n t : ℕ) → Some n ≡ one_less t → t ≡ suc n
 one_less_some n zero e = cc
 one_less_some n (suc t) e = cc
-
-pub there_are : (t : ℕ) → is_some (one_less t) ≡ leb 1 t
-there_are zero = refl
-there_are (suc t) = sym (le-leb 1 (suc t) (omega arith))
 
 -- the same of a length
 pub some_there : (n t : ℕ) → 1 ≤ n → n ≡ t → Some n ≡ unless_zero t

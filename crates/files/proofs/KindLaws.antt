@@ -6,8 +6,8 @@ use native.Mathlib.Omega.{arith}
 use lib.Dec.{eqb, ltb}
 use lib.ListN.{get_or-eq_default}
 use borrow.Author.Tests.{ltb-true, ltb-false, eqb-true, ne_eqb, eqb-false}
-use Rattle.std.specs.Prelude.{None, Some, slice_get}
-use Rattle.std.proofs.lemmas.Option.{none-some, slice_get_within, slice_get-get_or, get_or_from_slice_get}
+use Rattle.std.specs.Prelude.{Some, slice_get}
+use Rattle.std.proofs.lemmas.Option.{slice_get_within, get_or_from_slice_get}
 use Rattle.layout.proofs.ArmLaws.{NoneBelow}
 use Rattle.files.specs.Items.{every}
 use Rattle.files.specs.Nodes.{rules, no_rule, rule_of, ref_below, placed_ok, count_ok}
@@ -61,13 +61,6 @@ pub kind_there : (k : ℕ) (κ : Kind) → Some κ ≡ slice_get kinds k → (k 
 kind_there k κ e =
     let l : k < 20 = slice_get_within kinds k κ (sym e) in
     (l, ap number_of (sym (get_or_from_slice_get kinds k κ Plain (sym e))) ∙ numbered k l)
-
-pub no_kind : (k : ℕ) → None ≡ slice_get kinds k → 20 ≤ k
-no_kind k e = go (ltb k 20) refl
-  where
-    go : (t : Bool) → ltb k 20 ≡ t → 20 ≤ k
-    go true p = absurd (none-some _ (e ∙ slice_get-get_or kinds k Plain (ltb-true k 20 p)))
-    go false p = ltb-false k 20 p
 
 -- ---- what a reference is
 

@@ -1,13 +1,18 @@
 -- What the checks of the files come to, one after the other. Assumes nothing.
-use mathlib.Core.Path.{◌≡◌, refl, ap}
+use mathlib.Core.Path.{◌≡◌, refl, sym, ap, ◌∙◌}
 use mathlib.Core.Bool.{Bool, true, false}
-use mathlib.Core.List.{[], ◌∷◌}
+use mathlib.Core.List.{List, [], ◌∷◌}
 use Prim.Native.Nat.{ℕ}
+use lib.Dec.{leb}
 use Rattle.std.specs.Prelude.{Result, Ok, Err, MatchResult, Option, None, Some}
 use Rattle.std.specs.Option.{ok_or}
 use Rattle.std.specs.Result.{IsErrAnd}
 use Rattle.std.proofs.lemmas.Result.{err_from_is_err_and}
-use Rattle.files.specs.Refusal.{refusal_number, refused, first, or_else}
+use Rattle.files.specs.Bytes.{one_less}
+use Rattle.files.specs.Names.{names_in, types_in, counted}
+use Rattle.files.specs.Refusal.{refusal_number, refused, first, or_else, names_of, types_of}
+use Rattle.files.specs.declared.names.TheConstants.Texts.{NAMES, TYPES}
+use Rattle.files.proofs.NameLaws.{some_names, some_types}
 use Rattle.files.specs.declared.refusal.Refusal.{Refusal}
 use Rattle.files.specs.declared.refusal.Refusal.TheVariants.{RoutineTable, Names, Types, Head, Fields, Trees, Blocks, World, Call, Workspace, Addresses, Record}
 
@@ -25,9 +30,16 @@ pub counted_err : (o : Option ℕ) (e x : Refusal) → Err x ≡ ok_or o e → (
 counted_err None e x h = (refl, cc)
 counted_err (Some n) e x h = cc
 
-pub counted_ok : (o : Option ℕ) (e : Refusal) (n : ℕ) → Ok n ≡ ok_or o e → o ≡ Some n
+counted_ok : (o : Option ℕ) (e : Refusal) (n : ℕ) → Ok n ≡ ok_or o e → o ≡ Some n
 counted_ok None e n h = cc
 counted_ok (Some m) e n h = cc
+
+-- the counts that a body of names and one of types gave
+pub named : (b : List ℕ) (o : Option ℕ) (e : Refusal) (n : ℕ) → Ok n ≡ ok_or o e → o ≡ one_less (counted NAMES b) → (leb 1 (names_in b) ≡ true) × (names_of b ≡ n)
+named b o e n h k = some_names b n (sym (counted_ok o e n h) ∙ k)
+
+pub typed : (b : List ℕ) (o : Option ℕ) (e : Refusal) (n : ℕ) → Ok n ≡ ok_or o e → o ≡ one_less (counted TYPES b) → (leb 1 (types_in b) ≡ true) × (types_of b ≡ n)
+typed b o e n h k = some_types b n (sym (counted_ok o e n h) ∙ k)
 
 -- a refusal is no 0
 pub or_refusal : (e : Refusal) (n : ℕ) → refusal_number e ≡ or_else (refusal_number e) n

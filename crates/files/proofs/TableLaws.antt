@@ -12,7 +12,7 @@ use lib.ListN.{length}
 use Rattle.layout.specs.Number.{number_at}
 use Rattle.files.specs.Items.{every}
 use Rattle.files.specs.FileTable.{offset_of, length_of, HasBody, start_of, body_ok, table_ok}
-use Rattle.files.proofs.BoolLaws.{each_true, said_yes}
+use Rattle.files.proofs.BoolLaws.{each_true}
 use Rattle.files.proofs.ItemLaws.{every_fails, every_at}
 
 module _ (n : ℕ) (f : List ℕ) where
@@ -88,5 +88,5 @@ has_body n f h k l =
     let t = table_has n f h in
     record { told = omega (arith, t.room); within = body_within n f t k l }
 
-pub checked_body : (n : ℕ) (f : List ℕ) (t : Bool) → t ≡ table_ok n f → not t ≡ false → (k : ℕ) → k < n → HasBody f k
-checked_body n f t e h k l = has_body n f (said_yes t (table_ok n f) e h) k l
+pub checked_body : (n : ℕ) (f : List ℕ) (t : Bool) → t ≡ table_ok n f → t ≡ true → (k : ℕ) → k < n → HasBody f k
+checked_body n f t e h k l = has_body n f (sym e ∙ h) k l

@@ -1,11 +1,11 @@
 -- What the tests of the trees show. Assumes nothing.
 use mathlib.Core.Path.{◌≡◌, refl, sym, ap₂, ◌∙◌}
-use mathlib.Core.Bool.{Bool, true, false, not, and-false}
+use mathlib.Core.Bool.{Bool, true, false, and-false}
 use mathlib.Core.List.{List, [], ◌∷◌}
 use Prim.Native.Nat.{ℕ, zero, suc, ◌+◌, ◌-◌, ◌*◌, ◌≤◌, ◌<◌}
 use native.Mathlib.Nat.{not-suc-le-zero}
 use native.Mathlib.Omega.{arith}
-use borrow.Author.Tests.{le-leb, lt-leb, leb-true, leb-false, not-true, not-false}
+use borrow.Author.Tests.{le-leb, lt-leb, leb-true, leb-false}
 use lib.Dec.{leb, eqb}
 use lib.ListN.{length}
 use Rattle.files.specs.Nodes.{kind_of, span_of, node_ok, placed_ok, count_ok, trees_from, trees}
@@ -97,10 +97,10 @@ module _ (b : List ℕ) (depth parent n e c a : ℕ) (h : a ≡ trees b depth pa
     trees_long l d = unplaced l (simp (← es, lt-leb _ _ d, and-false))
 
     module _ (k : ℕ) (ek : k ≡ kind_of b n) where
-      pub trees_odd : n < e → (t : Bool) → t ≡ placed_ok k parent → not t ≡ true → 0 ≡ a
-      trees_odd l t et g = unplaced l (simp (← ek, ← et, not-true t g, and-false))
+      pub trees_odd : n < e → (t : Bool) → t ≡ placed_ok k parent → t ≡ false → 0 ≡ a
+      trees_odd l t et g = unplaced l (simp (← ek, ← et, g, and-false))
 
-      module _ (l : n < e) (fits : e * 20 ≤ length b) (d : 1 ≤ depth) (s₁ : 1 ≤ s) (s₂ : s ≤ e - n) (p : Bool) (ep : p ≡ placed_ok k parent) (f : not p ≡ false)
+      module _ (l : n < e) (fits : e * 20 ≤ length b) (d : 1 ≤ depth) (s₁ : 1 ≤ s) (s₂ : s ≤ e - n) (p : Bool) (ep : p ≡ placed_ok k parent) (f : p ≡ true)
           (j : ℕ) (ej : j ≡ trees b (depth - 1) k (n + 1) (n + s) 0) (t : Bool) (et : t ≡ count_ok k j) where
         kids_same : trees_from (length b) b (depth - 1) k (n + 1) (n + s) 0 ≡ j
         unfolding trees
@@ -109,14 +109,14 @@ module _ (b : List ℕ) (depth parent n e c a : ℕ) (h : a ≡ trees b depth pa
         goes : a ≡ turn false true t c (trees_from (length b) b depth parent (n + s) e (c + 1))
         unfolding trees
         goes = h ∙ one_turn b (length b) depth parent n e c
-            ∙ simp (lt-leb e n l, ← ek, ← es, kids_same, ← et, ← ep, not-false p f, le-leb _ _ d, le-leb _ _ s₁, le-leb _ _ s₂)
+            ∙ simp (lt-leb e n l, ← ek, ← es, kids_same, ← et, ← ep, f, le-leb _ _ d, le-leb _ _ s₁, le-leb _ _ s₂)
 
-        pub trees_uncounted : not t ≡ true → 0 ≡ a
-        trees_uncounted g = sym (goes ∙ simp (not-true t g))
+        pub trees_uncounted : t ≡ false → 0 ≡ a
+        trees_uncounted g = sym (goes ∙ simp g)
 
-        pub trees_on : not t ≡ false → a ≡ trees b depth parent (n + s) e (c + 1)
+        pub trees_on : t ≡ true → a ≡ trees b depth parent (n + s) e (c + 1)
         unfolding trees
-        trees_on g = goes ∙ simp (not-false t g) (sym (more b (length b) depth parent (n + s) e (c + 1) (omega arith)))
+        trees_on g = goes ∙ simp g (sym (more b (length b) depth parent (n + s) e (c + 1) (omega arith)))
 
 -- a node that is its whole span has no children that could be wrong
 pub no_kids : (b : List ℕ) (depth parent n s j : ℕ) → s ≤ 1 → j ≡ 1 → j ≡ trees b depth parent (n + 1) (n + s) 0

@@ -1,16 +1,29 @@
 -- What the tests of symbols and regions show. Assumes nothing.
-use mathlib.Core.Path.{◌≡◌, refl}
-use mathlib.Core.Bool.{true, false, and-false}
+use mathlib.Core.Path.{◌≡◌, refl, ap}
+use mathlib.Core.Bool.{true, false, ◌||◌, and-false}
 use mathlib.Core.List.{List}
 use Prim.Native.Nat.{ℕ, ◌+◌, ◌*◌, ◌/◌, ◌%◌, ◌≤◌, ◌<◌}
 use native.Mathlib.Numerals.{add-one}
 use native.Mathlib.Omega.{arith}
 use borrow.Author.Tests.{le-leb, lt-leb, lt-ltb, le-ltb, eq-eqb, ne_eqb}
 use lib.ListN.{length}
+use lib.Dec.{eqb, ltb}
 use Rattle.layout.specs.Number.{number_at}
 use Rattle.files.specs.Items.{every}
-use Rattle.files.specs.WorldFile.{least_name, symbol_ok, symbols_ok}
+use Rattle.std.specs.Prelude.{Option, None, Some}
+use Rattle.files.specs.WorldFile.{Before, Came, least_name, symbol_ok, symbols_ok}
 use Rattle.files.proofs.ItemLaws.{every_fails}
+
+-- an address and the region before it
+pub past_none : (o : Option ℕ) (a : ℕ) (s : Before) → o ≡ None → Came o s → true ≡ (eqb s.count 0 || ltb s.last a)
+past_none None a s e t = simp (eq-eqb _ _ t)
+past_none (Some x) a s e t = cc
+
+pub past_some : (o : Option ℕ) (x a : ℕ) (s : Before) → o ≡ Some x → Came o s → ltb x a ≡ (eqb s.count 0 || ltb s.last a)
+past_some None x a s e t = cc
+past_some (Some y) x a s e t =
+    let q : y ≡ x = ap (λ (o : Option ℕ). elim o [ None ↦ y | Some z ↦ z ]) e in
+    simp (ne_eqb s.count 0 (λ z. omega (arith, z, t.0)), t.1, q)
 
 module _ (b : List ℕ) (names : ℕ) where
   pub symbols_odd : (length b % 11 ≡ 0 → ⊥) → false ≡ symbols_ok b names

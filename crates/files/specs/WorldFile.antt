@@ -1,5 +1,5 @@
 -- The world file (document 01, "The files"). Assumes nothing.
-use Rattle.std.specs.Prelude.{Bool, ◌&&◌, ◌||◌, List, ℕ, zero, suc, ◌+◌, ◌-◌, ◌*◌, ◌/◌, ◌%◌, ◌^◌, length, leb, ltb, eqb}
+use Rattle.std.specs.Prelude.{Bool, ◌&&◌, ◌||◌, List, ℕ, zero, suc, ◌+◌, ◌-◌, ◌*◌, ◌/◌, ◌%◌, ◌^◌, ◌≤◌, ◌≡◌, length, leb, ltb, eqb, Option, None, Some}
 use Rattle.layout.specs.Number.{number_at}
 use Rattle.files.specs.Bytes.{only}
 use Rattle.files.specs.Items.{Items, read_from, every}
@@ -23,6 +23,11 @@ pub record Before : Type 0 where
 
 abbrev pub before : ℕ → ℕ → Before
 before n a = record { count = n; last = a }
+
+-- what a reader knows of it: whether one came, and then the last address
+abbrev pub Came : Option ℕ → Before → Type 0
+Came None s = s.count ≡ 0
+Came (Some a) s = (1 ≤ s.count) × (s.last ≡ a)
 
 -- the length of the region at byte i: "regions ascending and disjoint (address u64, length u32 from 1, bytes), ending by 2^64"
 unfoldable pub region_at : List ℕ → Before → ℕ → ℕ

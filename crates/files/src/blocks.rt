@@ -20,6 +20,7 @@ fn is_address(flag: u8, at: u64) -> bool
     (flag <= 1) & ((flag == 1) | (at == 0))
 }
 
+#[tactic(auto, unfolding(crate::specs::Blocks::statement_ok))]
 fn check_statement(nodes: &[u8], b: &[u8], k: usize) -> bool
     requires { k * 13 + 13 ≤ length b.now }
     ensures { result ≡ statement_ok nodes.now b.now k }
@@ -31,6 +32,7 @@ fn check_statement(nodes: &[u8], b: &[u8], k: usize) -> bool
     is_address(flag, at) & nodes::is_root(nodes, root)
 }
 
+#[tactic(auto, using(crate::proofs::BlockLaws::statements_odd, crate::proofs::BlockLaws::statements_not, crate::proofs::ItemLaws::every_more, crate::proofs::BlockLaws::statements_good), unfolding(crate::specs::Items::every))]
 fn check_statements(nodes: &[u8], b: &[u8]) -> bool
     ensures { result ≡ statements_ok nodes.now b.now }
 {
@@ -46,7 +48,8 @@ fn check_statements(nodes: &[u8], b: &[u8]) -> bool
     true
 }
 
-// Whether a terminator has its address, root, taken and next, and 0 for those that are not its.
+// Whether a terminator has its address, root, taken and next, and 0 for those that are not its. (Its kind as the number that it has in the file: kinds from 2 on
+// have an address and a root, so that a rule is one comparison; a reader gets `index::blocks::Terminator`. `rooted` is the answer about the root.)
 fn is_terminator(
     kind: u8,
     flag: u8,
@@ -67,6 +70,7 @@ fn is_terminator(
         & ((kind == 2) | (next == 0))
 }
 
+#[tactic(auto, unfolding(crate::specs::Blocks::block_ok))]
 fn check_block(nodes: &[u8], b: &[u8], i: usize) -> bool
     requires { i + 24 ≤ length b.now }
     ensures { result ≡ block_ok nodes.now b.now i }
@@ -81,7 +85,7 @@ fn check_block(nodes: &[u8], b: &[u8], i: usize) -> bool
     is_terminator(kind, flag, at, root, taken, next, rooted)
 }
 
-// The bytes of a block's cases.
+// The bytes of a block's cases: only a Switch, whose number is 3, has some.
 fn cases(b: &[u8], i: usize) -> usize
     requires { i + 24 ≤ length b.now }
     ensures { (result ≡ cases_of (get_or b.now (i + 2) 0) (number_at b.now (i + 16) 4)) × (result < 51539607552) }
@@ -93,6 +97,7 @@ fn cases(b: &[u8], i: usize) -> usize
 }
 
 // The length of the block at i, where `left` statements are not dealt yet.
+#[tactic(auto, using(crate::proofs::ItemLaws::some_there), unfolding(crate::specs::Blocks::block_at))]
 fn block_at(nodes: &[u8], b: &[u8], left: usize, i: usize) -> Option<usize>
     requires { i < length b.now }
     ensures block { result ≡ unless_zero (block_at nodes.now b.now left i) }
@@ -115,7 +120,9 @@ fn block_at(nodes: &[u8], b: &[u8], left: usize, i: usize) -> Option<usize>
     Some(more + BLOCK)
 }
 
-// Whether the blocks are as they must be, and take `count` statements. (A loop by lengths: where the next block is only a block's own cases say.)
+// Whether the blocks are as they must be, and take `count` statements: these are another body, of which only the number matters. (A loop by lengths: where the
+// next block is only a block's own cases say.)
+#[tactic(auto, unfolding(crate::specs::Blocks::blocks_in))]
 fn check_blocks(nodes: &[u8], count: usize, b: &[u8]) -> bool
     ensures { result ≡ leb 1 (blocks_in nodes.now count b.now) }
 {

@@ -48,6 +48,7 @@ const ARGUMENT: usize = 8;
 const LONGEST: usize = 136;
 
 // How many arguments there are.
+#[tactic(auto, using(crate::proofs::ListedLaws::length_listed))]
 pub fn arguments(b: &[u8]) -> usize
     requires { 8 ≤ length b.now }
     ensures { result ≡ length (limits_in b.now).arguments }
@@ -55,6 +56,7 @@ pub fn arguments(b: &[u8]) -> usize
     (b.len() - FIXED) / ARGUMENT
 }
 
+#[tactic(auto, using(crate::proofs::ListedLaws::length_listed))]
 pub fn argument(b: &[u8], i: usize) -> u64
     requires { i < length (limits_in b.now).arguments }
     ensures { result ≡ get_or (limits_in b.now).arguments i 0 }
@@ -62,6 +64,7 @@ pub fn argument(b: &[u8], i: usize) -> u64
     layout::get::<8>(b, i * ARGUMENT + FIXED)
 }
 
+#[tactic(auto, unfolding(crate::specs::Call::call_body_ok))]
 pub fn check(b: &[u8]) -> bool
     ensures { result ≡ call_body_ok b.now }
 {

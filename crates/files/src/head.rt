@@ -11,6 +11,7 @@ const VARIABLE: usize = 4;
 const PARAMETERS: u8 = 16;
 
 // Whether variable k has a name and a type.
+#[tactic(auto, unfolding(crate::specs::Head::variable_ok))]
 fn check_variable(b: &[u8], k: usize, names: usize, types: usize) -> bool
     requires { k * 4 + 17 ≤ length b.now }
     ensures { result ≡ variable_ok b.now names types k }
@@ -21,6 +22,7 @@ fn check_variable(b: &[u8], k: usize, names: usize, types: usize) -> bool
 }
 
 // Whether what stands before the variables is as it must be.
+#[tactic(auto, unfolding(crate::specs::Head::fixed_ok))]
 fn check_fixed(b: &[u8], names: usize, types: usize) -> bool
     requires { 13 ≤ length b.now }
     ensures { result ≡ fixed_ok b.now names types }
@@ -36,6 +38,7 @@ fn check_fixed(b: &[u8], names: usize, types: usize) -> bool
         & (parameters as usize <= rest / VARIABLE)
 }
 
+#[tactic(auto, using(crate::proofs::HeadLaws::head_short, crate::proofs::HeadLaws::head_odd, crate::proofs::HeadLaws::head_variable, crate::proofs::ItemLaws::every_more, crate::proofs::HeadLaws::head_good), unfolding(crate::specs::Items::every))]
 pub fn check(b: &[u8], names: usize, types: usize) -> bool
     ensures { result ≡ head_ok b.now names types }
 {

@@ -44,6 +44,7 @@ fn check_bodies(
 }
 
 // What a routine file is refused by.
+#[tactic(auto, unfolding(crate::specs::Refusal::routine_refusal))]
 pub fn check_routine(routine: &[u8]) -> Result<(), Refusal>
     ensures { refused result ≡ routine_refusal routine.now }
 {
@@ -57,6 +58,7 @@ pub fn check_routine(routine: &[u8]) -> Result<(), Refusal>
     check_bodies(names, types, head, nodes, statements, blocks)
 }
 
+#[tactic(auto, unfolding(crate::specs::Refusal::world_ok))]
 pub fn check_world(world: &[u8]) -> bool
     ensures { result ≡ world_ok world.now }
 {
@@ -69,6 +71,7 @@ pub fn check_world(world: &[u8]) -> bool
     world::check(names, symbols, regions)
 }
 
+#[tactic(auto, unfolding(crate::specs::Refusal::call_ok))]
 pub fn check_call(call: &[u8]) -> bool
     ensures { result ≡ call_ok call.now }
 {
@@ -80,6 +83,7 @@ pub fn check_call(call: &[u8]) -> bool
 }
 
 // What the three files are refused by.
+#[tactic(auto, unfolding(crate::specs::Refusal::refusal))]
 pub fn check(routine: &[u8], world: &[u8], call: &[u8]) -> Result<(), Refusal>
     ensures { refused result ≡ refusal routine.now world.now call.now }
 {
@@ -89,6 +93,7 @@ pub fn check(routine: &[u8], world: &[u8], call: &[u8]) -> Result<(), Refusal>
 }
 
 // What a routine file and a node of it are refused by.
+#[tactic(auto, unfolding(crate::specs::Refusal::constant_refusal))]
 pub fn check_constant(routine: &[u8], node: usize) -> Result<(), Refusal>
     ensures { refused result ≡ constant_refusal routine.now node }
 {

@@ -11,7 +11,7 @@ const LONGEST: usize = 64;
 
 const HIGHEST: u8 = 0x7e;
 
-// What tells names from types: the least length, the lowest byte, and whether each comes after the one before it.
+// What tells names from types: the least length, the lowest byte, and whether each comes after the one before it (a rule of its own, with no value beside it).
 #[derive(Clone, Copy)]
 pub struct Texts {
     pub shortest: usize,
@@ -45,6 +45,7 @@ fn printed(s: &[u8], lo: u8, hi: u8) -> bool
 }
 
 // Whether s comes before t: at the first byte that differs, or where s ends and t goes on. A loop, as a chain of iterators takes longer here.
+#[tactic(auto, using(crate::proofs::NameLaws::before_longer, crate::proofs::NameLaws::before_end, crate::proofs::NameLaws::before_less, crate::proofs::NameLaws::before_more, crate::proofs::NameLaws::before_on))]
 fn precedes(s: &[u8], t: &[u8]) -> bool
     ensures { result ≡ before s.now t.now }
 {
@@ -64,7 +65,9 @@ fn precedes(s: &[u8], t: &[u8]) -> bool
     s.len() < t.len()
 }
 
-// The text at i, where n came before it and the last one is `prior`.
+// The text at i, where n came before it and the last one is `prior`. (The place and the number are of the whole body, as the definition that the contract
+// names reads it: what is left of the body tells neither.)
+#[tactic(auto, unfolding(crate::specs::Names::text_at))]
 fn text_at<'a>(b: &'a [u8], texts: Texts, n: usize, prior: &[u8], i: usize) -> Option<&'a [u8]>
     requires { i < length b.now }
     ensures text { MatchOption result (text_at texts b.now n prior.now i ≡ 0) (λ t. (text_at texts b.now n prior.now i ≡ length t.now + 1) × (t.now ≡ part (i + 1) (i + 1 + length t.now) b.now)) }
@@ -97,6 +100,7 @@ fn text_at<'a>(b: &'a [u8], texts: Texts, n: usize, prior: &[u8], i: usize) -> O
 // How many texts the body has; none where it is refused. Inlined, so that the bounds of a byte are constants. (A loop by
 // lengths: where the next text is only a text's own length says.)
 #[inline(always)]
+#[tactic(auto, unfolding(crate::specs::Names::counted))]
 pub fn count(b: &[u8], texts: Texts) -> Option<usize>
     ensures { result ≡ one_less (counted texts b.now) }
 {

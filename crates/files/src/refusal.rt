@@ -41,7 +41,7 @@ impl From<Refusal> for u32 {
 }
 
 impl Refusal {
-    // Refuses what is not as it must be.
+    // Refuses what is not as it must be: here the answer of a check, a bool, becomes a result.
     pub fn unless(self, ok: bool) -> Result<(), Refusal>
         ensures { MatchResult result (λ _. ok ≡ true) (λ r. (ok ≡ false) × (r ≡ self)) }
     {

@@ -5,7 +5,8 @@ ghost use Rattle.files.specs.FileTable.{HasBody, body, table_ok};
 // The most bytes that a file has.
 const LONGEST: usize = 65535;
 
-// Whether f has n bodies, back to back from the table's end to its own.
+// Whether f has n bodies, back to back from the table's end to its own. (n is no length: it is how many a file of its sort must have.)
+#[tactic(auto, using(crate::proofs::TableLaws::table_long, crate::proofs::TableLaws::table_short, crate::proofs::TableLaws::table_count, crate::proofs::TableLaws::table_start, crate::proofs::TableLaws::table_gap), unfolding(crate::specs::Items::every))]
 pub fn check(f: &[u8], n: usize) -> bool
     requires { n < 65536 }
     ensures { result ≡ table_ok n f.now }
@@ -31,6 +32,7 @@ pub fn check(f: &[u8], n: usize) -> bool
 }
 
 // Body k. Whoever reads a file gets its bodies here.
+#[tactic(auto, unfolding(crate::specs::FileTable::body))]
 pub fn body(f: &[u8], k: usize) -> &[u8]
     requires { HasBody f.now k }
     ensures { result.now ≡ body f.now k }

@@ -11,7 +11,7 @@ use crate::nodes;
 // The most nodes of a chain from parent to child.
 const DEPTH: usize = 64;
 
-// Whether a kind may stand under a parent: a field just under a StructInit.
+// Whether a kind may stand under a parent: a field just under a StructInit. (Of a parent, or of none, nothing else matters: a bool, not its kind.)
 fn is_placed(kind: Kind, in_struct: bool) -> bool
     ensures { result ≡ placed_ok (number_of kind) (parent_of in_struct) }
 {
@@ -27,7 +27,8 @@ fn is_counted(kind: Kind, kids: usize) -> bool
 }
 
 // The trees side by side from node n up to node e, under a StructInit or not, with `depth` nodes left for a chain:
-// how many there are; none where one is not as it must be. (A loop by lengths: where the next tree is only a tree's own span says.)
+// how many there are; none where one is not as it must be. (A loop by lengths: where the next tree is only a tree's own span says. n and e beside all nodes:
+// spans count nodes, and the definition that the contract names goes by their numbers.)
 fn count(b: &[u8], depth: usize, in_struct: bool, n: usize, e: usize) -> Option<usize>
     requires { (n ≤ e) × (e * 20 ≤ length b.now) }
     ensures { result ≡ one_less (trees b.now depth (parent_of in_struct) n e 0) }
@@ -65,6 +66,7 @@ fn count(b: &[u8], depth: usize, in_struct: bool, n: usize, e: usize) -> Option<
 }
 
 // Whether the body is whole nodes, and they are trees as they must be.
+#[tactic(auto, unfolding(crate::specs::Nodes::trees_ok))]
 pub fn check(b: &[u8]) -> bool
     ensures { result ≡ trees_ok b.now }
 {

@@ -1,10 +1,10 @@
 // A world: names, symbols and regions.
-ghost use Rattle.std.specs.Prelude.{◌≡◌, ◌&&◌, ◌+◌, ◌-◌, ◌*◌, ◌<◌, ◌≤◌, ◌/◌, leb, length, IfSome};
+ghost use Rattle.std.specs.Prelude.{◌≡◌, ◌&&◌, ◌||◌, ◌+◌, ◌-◌, ◌*◌, ◌<◌, ◌≤◌, ◌/◌, eqb, ltb, leb, length, IfSome};
 ghost use Rattle.layout.specs.Number.{number_at};
 ghost use Rattle.files.specs.Names.{names_in};
 ghost use Rattle.files.specs.Refusal.{names_of};
 ghost use Rattle.files.specs.World.{unless_zero};
-ghost use Rattle.files.specs.WorldFile.{symbols_ok, before, region_at, regions_in};
+ghost use Rattle.files.specs.WorldFile.{Before, Came, symbols_ok, region_at, regions_in};
 
 use crate::names;
 use crate::names::Texts;
@@ -14,6 +14,7 @@ pub const SYMBOL: usize = 11;
 
 pub const REGION: usize = 12;
 
+#[tactic(auto, using(crate::proofs::WorldLaws::symbols_odd, crate::proofs::WorldLaws::symbols_start, crate::proofs::WorldLaws::symbols_down, crate::proofs::WorldLaws::symbols_good), unfolding(crate::specs::Items::every))]
 fn check_symbols(b: &[u8], names: usize) -> bool
     ensures { result ≡ symbols_ok b.now names }
 {
@@ -35,10 +36,21 @@ fn check_symbols(b: &[u8], names: usize) -> bool
     true
 }
 
-// The length of the region at i, where n came before it and the last one's last address is `last`.
-fn region_at(b: &[u8], n: usize, last: u64, i: usize) -> Option<usize>
+// Whether an address is past the last one of the region before, if there is one.
+fn is_past(last: Option<u64>, at: u64) -> bool
+    ensures { (s : Before) → Came last s → result ≡ (eqb s.count 0 || ltb s.last at) }
+{
+    match last {
+        None => true,
+        Some(last) => last < at,
+    }
+}
+
+// The length of the region at i, where the last address of the one before it is `last`. (i is a place in the whole body, as in the definition that the contract
+// names.)
+fn region_at(b: &[u8], last: Option<u64>, i: usize) -> Option<usize>
     requires { i < length b.now }
-    ensures region { result ≡ unless_zero (region_at b.now (before n last) i) }
+    ensures region { (s : Before) → Came last s → result ≡ unless_zero (region_at b.now s i) }
     ensures within { IfSome result (λ k. (13 ≤ k) × (i + k ≤ length b.now)) }
     ensures ends { IfSome result (λ k. number_at b.now i 8 + (k - 13) < 18446744073709551616) }
 {
@@ -57,7 +69,7 @@ fn region_at(b: &[u8], n: usize, last: u64, i: usize) -> Option<usize>
     if b.len() - (i + REGION) < size as usize {
         return None;
     }
-    if !((n == 0) | (last < at)) {
+    if !is_past(last, at) {
         return None;
     }
     Some(size as usize + REGION)
@@ -67,20 +79,19 @@ fn region_at(b: &[u8], n: usize, last: u64, i: usize) -> Option<usize>
 fn check_regions(b: &[u8]) -> bool
     ensures { result ≡ leb 1 (regions_in b.now) }
 {
-    let mut n = 0;
-    let mut last = 0;
+    let mut last = None;
     let mut i = 0;
     while i < b.len() {
-        let Some(k) = region_at(b, n, last, i) else {
+        let Some(k) = region_at(b, last, i) else {
             return false;
         };
-        last = layout::get::<8>(b, i) + (k - 13) as u64;
-        n += 1;
+        last = Some(layout::get::<8>(b, i) + (k - 13) as u64);
         i += k;
     }
     true
 }
 
+#[tactic(auto, using(crate::proofs::NameLaws::no_names, crate::proofs::NameLaws::some_names))]
 pub fn check(names: &[u8], symbols: &[u8], regions: &[u8]) -> bool
     ensures { result ≡ (leb 1 (names_in names.now) && symbols_ok symbols.now (names_of names.now) && leb 1 (regions_in regions.now)) }
 {

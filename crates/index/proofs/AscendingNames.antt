@@ -20,7 +20,7 @@ use Rattle.files.specs.Program.{texts_in}
 use Rattle.index.specs.Places.{place_from, text_size}
 use Rattle.index.specs.Texts.{text_count}
 use Rattle.index.proofs.PlaceLaws.{place_strict}
-use Rattle.files.proofs.BoolLaws.{both}
+use Rattle.std.proofs.lemmas.Bool.{and_parts}
 use Rattle.files.proofs.ItemLaws.{every_at}
 use Rattle.index.proofs.ItemLaws.{state_from}
 use Rattle.index.proofs.TextPlaces.{text_some, text_bytes, name_at_lem, names_texts}
@@ -70,21 +70,21 @@ module _ (b : List ℕ) (h : 1 ≤ names_in b) (short : length b < 65536) (bytes
 module _ (S : List ℕ) (names : ℕ) (h : symbols_ok S names ≡ true) where
   pub symbols_whole : length S % 11 ≡ 0
   unfolding symbols_ok
-  symbols_whole = eqb-true (length S % 11) 0 (both (eqb (length S % 11) 0) (every (length S / 11) (symbol_ok S names)) h).0
+  symbols_whole = eqb-true (length S % 11) 0 (and_parts (eqb (length S % 11) 0) (every (length S / 11) (symbol_ok S names)) h).0
 
   symbol_good : (k : ℕ) → k < length S / 11 → symbol_ok S names k ≡ true
   unfolding symbols_ok
-  symbol_good k l = every_at (symbol_ok S names) (length S / 11) k (both (eqb (length S % 11) 0) (every (length S / 11) (symbol_ok S names)) h).1 l
+  symbol_good k l = every_at (symbol_ok S names) (length S / 11) k (and_parts (eqb (length S % 11) 0) (every (length S / 11) (symbol_ok S names)) h).1 l
 
   -- a symbol's name is one of the world's
   pub symbol_named_lem : (k : ℕ) → k < length S / 11 → number_at S (k * 11) 2 < names
-  symbol_named_lem k l = ltb-true _ _ (both (leb (least_name S k) (number_at S (k * 11) 2)) (ltb (number_at S (k * 11) 2) names) (symbol_good k l)).1
+  symbol_named_lem k l = ltb-true _ _ (and_parts (leb (least_name S k) (number_at S (k * 11) 2)) (ltb (number_at S (k * 11) 2) names) (symbol_good k l)).1
 
   symbol_next : (k : ℕ) → suc k < length S / 11 → number_at S (k * 11) 2 < number_at S (suc k * 11) 2
   unfolding least_name
   symbol_next k l =
       let n = number_at S (suc k * 11) 2 in
-      omega (arith, leb-true (number_at S (k * 11) 2 + 1) n (both (leb (number_at S (k * 11) 2 + 1) n) (ltb n names) (symbol_good (suc k) l)).0)
+      omega (arith, leb-true (number_at S (k * 11) 2 + 1) n (and_parts (leb (number_at S (k * 11) 2 + 1) n) (ltb n names) (symbol_good (suc k) l)).0)
 
   pub symbols_ascend : (j k : ℕ) → j < k → k < length S / 11 → number_at S (j * 11) 2 < number_at S (k * 11) 2
   symbols_ascend j zero l g = absurd (not-suc-le-zero l)

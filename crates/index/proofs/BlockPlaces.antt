@@ -18,7 +18,8 @@ use Rattle.files.specs.Program.{block_at, blocks_from, listed}
 use Rattle.index.specs.Places.{place_from, block_size}
 use Rattle.index.specs.Blocks.{block_start, first_from, block_first, BlockInside, Blocks}
 use Rattle.index.proofs.PlaceLaws.{place_mono, place_least, place_strict}
-use Rattle.files.proofs.BoolLaws.{both, only_there}
+use Rattle.std.proofs.lemmas.Bool.{and_parts}
+use Rattle.files.proofs.BoolLaws.{only_there}
 use Rattle.index.proofs.ItemLaws.{state_from, reached}
 
 block_one : (b : List ℕ) (i : ℕ) → 1 ≤ block_size b i
@@ -43,8 +44,8 @@ kind_good nodes b i h =
     let t₅ = ltb kind 2 || root_ok nodes (number_at b (i + 12) 4) in
     let t₆ = leb 1 kind || eqb (number_at b (i + 16) 4) 0 in
     let t₇ = eqb kind 2 || eqb (number_at b (i + 20) 4) 0 in
-    let h₄ = (both (t₁ && t₂ && t₃ && t₄) t₅ (both (t₁ && t₂ && t₃ && t₄ && t₅) t₆ (both (t₁ && t₂ && t₃ && t₄ && t₅ && t₆) t₇ h).0).0).0 in
-    leb-true kind 3 (both t₁ t₂ (both (t₁ && t₂) t₃ (both (t₁ && t₂ && t₃) t₄ h₄).0).0).0
+    let h₄ = (and_parts (t₁ && t₂ && t₃ && t₄) t₅ (and_parts (t₁ && t₂ && t₃ && t₄ && t₅) t₆ (and_parts (t₁ && t₂ && t₃ && t₄ && t₅ && t₆) t₇ h).0).0).0 in
+    leb-true kind 3 (and_parts t₁ t₂ (and_parts (t₁ && t₂) t₃ (and_parts (t₁ && t₂ && t₃) t₄ h₄).0).0).0
 
 tested : (nodes b : List ℕ) (left i : ℕ) → i < length b → (item_at nodes b left i ≡ 0 → ⊥) → Tested nodes b left i
 unfolding item_at
@@ -55,15 +56,15 @@ tested nodes b left i h n =
     let t₃ = block_ok nodes b i in
     let t₄ = leb k (length b - (i + 24)) in
     let a : (t₁ && t₂ && t₃ && t₄) ≡ true = (only_there (t₁ && t₂ && t₃ && t₄) (k + 24) n).0 in
-    let a₃ = (both (t₁ && t₂ && t₃) t₄ a).0 in
-    let a₂ = (both (t₁ && t₂) t₃ a₃).0 in
-    let g = (both (t₁ && t₂) t₃ a₃).1 in
+    let a₃ = (and_parts (t₁ && t₂ && t₃) t₄ a).0 in
+    let a₂ = (and_parts (t₁ && t₂) t₃ a₃).0 in
+    let g = (and_parts (t₁ && t₂) t₃ a₃).1 in
     record {
       inside = record {
-        inside = omega (arith, leb-true 24 (length b - i) (both t₁ t₂ a₂).0, leb-true k (length b - (i + 24)) (both (t₁ && t₂ && t₃) t₄ a).1);
+        inside = omega (arith, leb-true 24 (length b - i) (and_parts t₁ t₂ a₂).0, leb-true k (length b - (i + 24)) (and_parts (t₁ && t₂ && t₃) t₄ a).1);
         kind = kind_good nodes b i g;
       };
-      dealt = leb-true (number_at b i 2) left (both t₁ t₂ a₂).1;
+      dealt = leb-true (number_at b i 2) left (and_parts t₁ t₂ a₂).1;
       good = g;
       sized = ap (λ (t : Bool). only t (k + 24)) a;
     }

@@ -21,7 +21,8 @@ use Rattle.files.specs.World.{Region, region}
 use Rattle.index.specs.Places.{place_from, region_size}
 use Rattle.index.specs.Regions.{region_count, region_place, start_at, end_at, RegionInside, Regions}
 use Rattle.index.proofs.PlaceLaws.{place_strict}
-use Rattle.files.proofs.BoolLaws.{both, only_there}
+use Rattle.std.proofs.lemmas.Bool.{and_parts}
+use Rattle.files.proofs.BoolLaws.{only_there}
 use Rattle.index.proofs.ItemLaws.{state_from, reached, finishes}
 use Rattle.index.proofs.BodyLaws.{whole_length, whole_at, reads_rest, reads_bytes, drop_to}
 
@@ -93,17 +94,17 @@ tested b s i h n =
     let t₄ = leb (number_at b i 8 + size) (2 ^ 64) in
     let t₅ = leb size (length b - (i + 12)) in
     let a : (t₁ && t₂ && t₃ && t₄ && t₅) ≡ true = (only_there (t₁ && t₂ && t₃ && t₄ && t₅) (size + 12) n).0 in
-    let a₄ = (both (t₁ && t₂ && t₃ && t₄) t₅ a).0 in
-    let a₃ = (both (t₁ && t₂ && t₃) t₄ a₄).0 in
-    let a₂ = (both (t₁ && t₂) t₃ a₃).0 in
-    let l : 1 ≤ size = leb-true 1 size (both (t₁ && t₂) t₃ a₃).1 in
+    let a₄ = (and_parts (t₁ && t₂ && t₃ && t₄) t₅ a).0 in
+    let a₃ = (and_parts (t₁ && t₂ && t₃) t₄ a₄).0 in
+    let a₂ = (and_parts (t₁ && t₂) t₃ a₃).0 in
+    let l : 1 ≤ size = leb-true 1 size (and_parts (t₁ && t₂) t₃ a₃).1 in
     record {
       ok = record {
-        inside = omega (arith, leb-true size (length b - (i + 12)) (both (t₁ && t₂ && t₃ && t₄) t₅ a).1, l);
+        inside = omega (arith, leb-true size (length b - (i + 12)) (and_parts (t₁ && t₂ && t₃ && t₄) t₅ a).1, l);
         some = l;
-        ends = leb-true (number_at b i 8 + size) (2 ^ 64) (both (t₁ && t₂ && t₃) t₄ a₄).1;
+        ends = leb-true (number_at b i 8 + size) (2 ^ 64) (and_parts (t₁ && t₂ && t₃) t₄ a₄).1;
       };
-      after = (both t₁ t₂ a₂).1;
+      after = (and_parts t₁ t₂ a₂).1;
       sized = ap (λ (t : Bool). only t (size + 12)) a;
     }
 

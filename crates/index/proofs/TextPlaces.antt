@@ -22,7 +22,8 @@ use Rattle.files.specs.Program.{texts_in}
 use Rattle.index.specs.Places.{place_from, text_size}
 use Rattle.index.specs.Texts.{text_count, Texts}
 use Rattle.index.proofs.PlaceLaws.{place_suc, place_mono, place_strict}
-use Rattle.files.proofs.BoolLaws.{both, only_there}
+use Rattle.std.proofs.lemmas.Bool.{and_parts}
+use Rattle.files.proofs.BoolLaws.{only_there}
 use Rattle.index.proofs.ItemLaws.{state_from, reached, ended, finishes}
 use Rattle.index.proofs.BodyLaws.{whole_length, whole_at, reads_rest, reads_bytes}
 
@@ -115,14 +116,14 @@ named b s i h n =
     let t₅ = printable 0x21 0x7e (part (i + 1) (i + 1 + k) b) in
     let t₆ = before (part s.from s.to b) (part (i + 1) (i + 1 + k) b) in
     let a : (t₁ && t₂ && t₃ && t₄ && t₅ && t₆) ≡ true = (only_there (t₁ && t₂ && t₃ && t₄ && t₅ && t₆) (k + 1) n).0 in
-    let a₄ = (both (t₁ && t₂ && t₃ && t₄) t₅ (both (t₁ && t₂ && t₃ && t₄ && t₅) t₆ a).0).0 in
-    let a₃ = (both (t₁ && t₂ && t₃) t₄ a₄).0 in
-    let l₃ : k ≤ 64 = leb-true k 64 (both (t₁ && t₂) t₃ a₃).1 in
+    let a₄ = (and_parts (t₁ && t₂ && t₃ && t₄) t₅ (and_parts (t₁ && t₂ && t₃ && t₄ && t₅) t₆ a).0).0 in
+    let a₃ = (and_parts (t₁ && t₂ && t₃) t₄ a₄).0 in
+    let l₃ : k ≤ 64 = leb-true k 64 (and_parts (t₁ && t₂) t₃ a₃).1 in
     record {
-      few = ltb-true s.count 512 (both t₁ t₂ (both (t₁ && t₂) t₃ a₃).0).0;
-      inside = omega (arith, leb-true k (length b - (i + 1)) (both (t₁ && t₂ && t₃) t₄ a₄).1, h);
+      few = ltb-true s.count 512 (and_parts t₁ t₂ (and_parts (t₁ && t₂) t₃ a₃).0).0;
+      inside = omega (arith, leb-true k (length b - (i + 1)) (and_parts (t₁ && t₂ && t₃) t₄ a₄).1, h);
       short = l₃;
-      after = (both (t₁ && t₂ && t₃ && t₄ && t₅) t₆ a).1;
+      after = (and_parts (t₁ && t₂ && t₃ && t₄ && t₅) t₆ a).1;
       sized = ap (λ (t : Bool). only t (k + 1)) a ∙ ap (λ (m : ℕ). m + 1) (sym (number_at_one b i h (omega (arith, l₃))));
     }
 
@@ -174,9 +175,9 @@ module _ (b : List ℕ) (n i : ℕ) (h : i < length b) (some : type_at b n i ≡
       let t₃ = leb k (length b - (i + 1)) in
       let t₄ = printable 0x20 0x7e (part (i + 1) (i + 1 + k) b) in
       let a : (t₁ && t₂ && t₃ && t₄) ≡ true = (only_there (t₁ && t₂ && t₃ && t₄) (k + 1) some).0 in
-      let a₃ = (both (t₁ && t₂ && t₃) t₄ a).0 in
-      let a₂ = (both (t₁ && t₂) t₃ a₃).0 in
-      (ltb-true n 512 (both t₁ t₂ a₂).0, leb-true k 64 (both t₁ t₂ a₂).1, omega (arith, leb-true k (length b - (i + 1)) (both (t₁ && t₂) t₃ a₃).1, h), ap (λ (t : Bool). only t (k + 1)) a)
+      let a₃ = (and_parts (t₁ && t₂ && t₃) t₄ a).0 in
+      let a₂ = (and_parts (t₁ && t₂) t₃ a₃).0 in
+      (ltb-true n 512 (and_parts t₁ t₂ a₂).0, leb-true k 64 (and_parts t₁ t₂ a₂).1, omega (arith, leb-true k (length b - (i + 1)) (and_parts (t₁ && t₂) t₃ a₃).1, h), ap (λ (t : Bool). only t (k + 1)) a)
 
   type_sized : type_at b n i ≡ text_size b i
   type_sized = omega (arith, typed.3, number_at_one b i h (omega (arith, typed.1)))

@@ -68,7 +68,7 @@ fn address_at(s: &[u8], at: usize) -> Option<u64>
     Some(layout::get::<8>(s, at + 1))
 }
 
-// The bytes of the block at a place.
+// The bytes of the block at a place. (By the number of a Switch, 3: of the terminator nothing else is wanted here, and `terminator_at` reads the whole.)
 fn block_size(blocks: &[u8], start: usize) -> usize
     requires { BlockInside blocks.now start }
     ensures { (result ≡ block_size blocks.now start) × ((BLOCK ≤ result) × (start + result ≤ length blocks.now)) }
@@ -119,7 +119,7 @@ pub fn block(part: &[u8], k: usize) -> Place
     }
 }
 
-// The terminator of the block at a place.
+// The terminator of the block at a place: here the number of its kind becomes one of `Terminator`.
 pub fn terminator_at(blocks: &[u8], start: usize) -> Terminator
     requires { BlockInside blocks.now start }
     ensures { Ends blocks.now start result }

@@ -1,4 +1,6 @@
 // The bytes of a world at an address. The index: for every fourth region, in two bytes, its place.
+// A count of its entries stands beside the part: this is a fixed place with room for the most, so that its length does not tell; and to cut it for each load
+// would cost each load a comparison.
 ghost use Rattle.std.specs.Prelude.{◌≡◌, cond, IfSome, ◌+◌, ◌*◌, ◌/◌, ◌%◌, ◌≤◌, ◌<◌, length, eqb};
 ghost use Rattle.layout.specs.Number.{number_at, put_number};
 ghost use Rattle.index.specs.Regions.{stride, regions_room, RegionInside, LengthOf, Regions, RegionsIndexed, From, Numbered, Holding, Located, Gathered, ReadFrom, end_at};
@@ -75,6 +77,7 @@ fn nearest(regions: &[u8], part: &[u8], count: usize, address: u64) -> usize
 {
     let mut low = 0;
     let mut high = count;
+    // A search: either end moves, to a middle that the last answer gives.
     while low + 1 < high {
         let middle = low + (high - low) / 2;
         let at = layout::get::<2>(part, middle * 2) as usize;
@@ -155,6 +158,7 @@ pub fn read(regions: &[u8], part: &[u8], count: usize, address: u64, size: usize
     }
     let from = nearest(regions, part, count, address);
     let mut next = locate(regions, from, address);
+    // `successors` would give these regions too, but has no bound on how many, so that a `for` over it is not known to end.
     while let Some(at) = next {
         image = gather(regions, at, address, size, image);
         if image.count == size {

@@ -2,13 +2,13 @@
 use mathlib.Core.Path.{◌≡◌, refl, sym, ap, ap₂, ◌∙◌}
 use mathlib.Core.List.{List, [], ◌∷◌, ◌++◌}
 use Prim.Native.Nat.{ℕ, zero, suc, ◌+◌, ◌*◌, ◌/◌, ◌%◌, ◌^◌, ◌≤◌, ◌<◌}
-use native.Mathlib.Nat.{pow-suc, pow-zero, div-lt_iff_lt-mul, div-div-eq-div-mul, div-one, mul_comm, mul_assoc, suc-add, zero-add, le_trans, pow-le-pow_right}
+use native.Mathlib.Nat.{pow-suc, pow-zero, div-lt_iff_lt-mul, div-div-eq-div-mul, div-one, mul_comm, mul_assoc, le_trans, pow-le-pow_right}
 use native.Mathlib.Omega.{arith}
 use lib.Dec.{lit<}
-use lib.ListN.{length, take, drop, replicate, get_or, length-take, length-drop}
+use lib.ListN.{length, take, drop, replicate, get_or, length-take}
 use Rattle.std.specs.Int.{byte_at, byte_worth, bytes_low_first, sum_through}
 use Rattle.std.specs.List.{slice_index}
-use lib.Seq.{take-suc, take-add, drop-drop, drop-cons, length-take-le}
+use lib.Seq.{take-suc, drop-cons, length-take-le}
 use Rattle.layout.specs.Each.{Bytes}
 use Rattle.layout.specs.Number.{le, num, number_at}
 use Rattle.layout.proofs.StoreLaws.{byte_of}
@@ -27,27 +27,12 @@ pub num_lt : (bs : List ℕ) → num bs < 256 ^ length bs
 num_lt [] = rw pow-zero (lit< tt)
 num_lt (b ∷ bs) = rw pow-suc (omega (arith, num_lt bs))
 
--- a number in j + k bytes is its low j bytes, then the others
-pub le_add : (j k n : ℕ) → le (j + k) n ≡ le j n ++ le k (n / 256 ^ j)
-le_add zero k n = rw (zero-add, pow-zero, div-one)
-le_add (suc j) k n =
-    rw suc-add
-    (ap (λ (l : List ℕ). n % 256 ∷ l)
-    (le_add j k (n / 256) ∙ ap (λ (x : ℕ). le j (n / 256) ++ le k x) (div-div-eq-div-mul n 256 (256 ^ j) ∙ ap (λ (x : ℕ). n / x) (mul_comm 256 (256 ^ j) ∙ sym (pow-suc 256 j)))))
-
 pub num_append : (xs ys : List ℕ) → num (xs ++ ys) ≡ num xs + 256 ^ length xs * num ys
 num_append [] ys = rw (pow-zero) (omega arith)
 num_append (x ∷ xs) ys =
     let e : 256 ^ suc (length xs) * num ys ≡ 256 * (256 ^ length xs * num ys) =
     ap (λ (q : ℕ). q * num ys) (pow-suc 256 (length xs) ∙ mul_comm (256 ^ length xs) 256) ∙ mul_assoc 256 (256 ^ length xs) (num ys) in
     omega (arith, e, num_append xs ys)
-
--- the number of j + k bytes, of its two parts
-pub number_at_add : (s : List ℕ) (i j k : ℕ) → i + j ≤ length s → number_at s i (j + k) ≡ number_at s i j + 256 ^ j * number_at s (i + j) k
-unfolding number_at
-number_at_add s i j k h =
-    let e : length (take j (drop i s)) ≡ j = length-take-le j (drop i s) (rw length-drop (omega arith)) in
-    rw (take-add, num_append, e, drop-drop)
 
 -- one byte
 pub number_at_one : (s : List ℕ) (i : ℕ) → i < length s → get_or s i 0 < 256 → number_at s i 1 ≡ get_or s i 0

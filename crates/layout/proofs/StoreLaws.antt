@@ -2,11 +2,12 @@
 use mathlib.Core.Path.{◌≡◌, refl, sym, ap, ap₂, ◌∙◌}
 use mathlib.Core.List.{List, [], ◌∷◌, ◌++◌, append_assoc}
 use Prim.Native.Nat.{ℕ, zero, suc, ◌+◌, ◌-◌, ◌≤◌, ◌<◌}
-use native.Mathlib.Nat.{add-suc, suc-add, zero-add, add-zero}
+use native.Mathlib.Nat.{add-suc, suc-add, add-zero}
 use native.Mathlib.Omega.{arith}
 use lib.Dec.{lit<}
 use lib.ListN.{length, take, drop, replicate, get_or, set, length-set, take-append-drop}
-use lib.Seq.{sets, sets-eq, drop-drop, drop_at, take_at, length-take-le, drop-set-lt, drop-set-add, take-nil, take-take, take-set-le, set-append_left}
+use lib.Seq.{sets, sets-eq, drop-drop, drop_at, take_at, length-take-le, drop-set-lt, drop-set-add, take-take, take-set-le, set-append_left}
+use Rattle.std.proofs.lemmas.List.{drop-take}
 use borrow.Rule.Slice.PartMut.{mid_of, post_of, put_mid}
 use Rattle.layout.specs.Each.{Each, Bytes}
 use Rattle.layout.specs.Number.{num, number_at}
@@ -63,14 +64,9 @@ pub take_sets : (vs l : List ℕ) (i n : ℕ) → n ≤ i → take n (sets l i v
 take_sets [] l i n h = refl
 take_sets (v ∷ vs) l i n h = take_sets vs (set l i v) (suc i) n (omega arith) ∙ take-set-le n l i v h
 
-pub drop_take : {A : Type 0} (a k : ℕ) (s : List A) → drop a (take (a + k) s) ≡ take k (drop a s)
-drop_take zero k s = rw zero-add
-drop_take (suc a) k [] = rw (take-nil, take-nil)
-drop_take (suc a) k (x ∷ s) = rw suc-add (drop_take a k s)
-
 -- what lies within the first p elements
 pub part_take : {A : Type 0} (a k p : ℕ) (s : List A) → a + k ≤ p → take k (drop a (take p s)) ≡ take k (drop a s)
-part_take a k p s h = sym (drop_take a k (take p s)) ∙ ap (drop a) (take-take (a + k) p s h) ∙ drop_take a k s
+part_take a k p s h = sym (drop-take a k (take p s)) ∙ ap (drop a) (take-take (a + k) p s h) ∙ drop-take a k s
 
 -- a number before them
 pub number_above : (s vs : List ℕ) (i j k : ℕ) → j + k ≤ i → number_at (sets s i vs) j k ≡ number_at s j k

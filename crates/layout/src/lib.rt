@@ -1,4 +1,4 @@
-// Little-endian numbers in byte slices.
+// Little-endian numbers in byte slices. (A count is of the bytes that are read or written: a slice has more behind them.)
 #![tactic(auto)]
 
 ghost use Rattle.std.specs.Prelude.{◌≡◌, ◌+◌, ◌^◌, ◌<◌, ◌≤◌, length};

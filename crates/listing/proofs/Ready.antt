@@ -1,9 +1,9 @@
 -- An accepted run: what its routine and its record give to those that print its lines. Assumes nothing.
-use mathlib.Core.Path.{◌≡◌, sym, ap, ap₂, ◌∙◌, subst}
+use mathlib.Core.Path.{◌≡◌, sym, ap₂, ◌∙◌, subst}
 use mathlib.Core.List.{List}
 use Prim.Native.Nat.{ℕ, ◌+◌, ◌-◌, ◌*◌, ◌≤◌, ◌<◌}
 use native.Mathlib.Omega.{arith}
-use lib.ListN.{length, take, drop, length-append, length-take}
+use lib.ListN.{length, take, drop, length-append}
 use Rattle.layout.specs.Number.{number_at}
 use Rattle.files.specs.FileTable.{body, HasBody}
 use Rattle.files.specs.Refusal.{routine_refusal}
@@ -14,9 +14,9 @@ use Rattle.definition.specs.Record.{join, pairs, layout, Ran, bodies, record_byt
 use Rattle.definition.specs.Run.{ran, number, record_of, workspace_needed}
 use Rattle.definition.specs.Answered.{Answered}
 use Rattle.definition.proofs.Verdict.{accepted_run}
-use Rattle.definition.proofs.Answered.{length_left, record_left}
+use Rattle.definition.proofs.Answered.{record_left}
 use Rattle.text.specs.Read.{StopThere}
-use Rattle.text.proofs.Listing.{StepsLeft, VariablesLeft, stop_inside, steps_inside, variables_inside}
+use Rattle.text.proofs.Listing.{stop_inside, steps_inside, variables_inside}
 use Rattle.text.proofs.FitPrograms.{head_there, record_short}
 use Rattle.text.proofs.Listed.{stop_ready, steps_ready, variables_ready}
 use Rattle.listing.specs.Accepted.{Listable, RunOf}
@@ -30,12 +30,6 @@ body_is r i start size p q = ap₂ (λ (n k : ℕ). take n (drop k r)) {x = star
 module _ {n : ℕ} {r b : List ℕ} (l : Listable n r) where
   pub stop_of_lem : b ≡ body_at r 0 → StopThere n b
   stop_of_lem e = subst (λ (s : List ℕ). StopThere n s) (sym e) l.stop
-
-  pub steps_of : b ≡ body_at r 2 → StepsLeft n b
-  steps_of e = subst (λ (s : List ℕ). StepsLeft n s) (sym e) l.steps
-
-  pub variables_of : b ≡ body_at r 3 → VariablesLeft n b
-  variables_of e = subst (λ (s : List ℕ). VariablesLeft n s) (sym e) l.variables
 
 -- the six pairs
 record_long : (r : Ran) → 48 ≤ length (record_bytes r)
@@ -90,12 +84,6 @@ module _ {routine world call record₀ workspace₀ : List ℕ} {n l : ℕ} {rec
 
   record_taken : take l record₁ ≡ record_of routine world call
   record_taken = record_left routine world call record₀ workspace₀ l record₁ workspace₁ answered_zero
-
-  pub taken_whole : l ≡ length (take l record₁)
-  taken_whole = length_left routine world call record₀ workspace₀ l record₁ workspace₁ answered_zero ∙ sym (ap length record_taken)
-
-  pub taken_within : l ≤ length record₁
-  taken_within = omega (arith, taken_whole, length-take l record₁)
 
   pub run_of : length record₀ ≡ 65536 → length workspace₀ ≡ 65536 → RunOf routine (take l record₁)
   run_of p q = record {

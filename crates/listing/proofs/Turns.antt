@@ -1,10 +1,11 @@
 -- A turn of a loop over what is left of a body: what its next line is made from is there, and less is left behind it. Assumes nothing.
 use mathlib.Core.Path.{◌≡◌, sym, subst, ap, ◌∙◌}
-use mathlib.Core.List.{List}
+use mathlib.Core.List.{List, ◌++◌}
 use Prim.Native.Nat.{ℕ, ◌-◌, ◌≤◌, ◌<◌}
 use native.Mathlib.Omega.{arith}
-use lib.ListN.{length, take, drop, length-drop}
-use lib.Seq.{take_all}
+use lib.ListN.{length, take, drop, length-append, length-drop}
+use lib.Seq.{take_all, take-append-le, drop_at}
+use Rattle.layout.specs.Number.{num, number_at}
 use Rattle.text.specs.Read.{step_size, StepThere, VariableThere}
 use Rattle.text.proofs.Listing.{StepsLeft, VariablesLeft, steps_next, variables_next}
 
@@ -23,7 +24,14 @@ module _ {n : ℕ} (s : List ℕ) (l : 0 < length s) where
       let f : take (length s - k) (drop k s) ≡ drop (step_size s) s = rest_of s k ∙ ap (λ (i : ℕ). drop i s) e in
       (omega (arith, e, y.0), (omega (arith, ap length f, length-drop (step_size s) s, y.0, y.1), subst (λ (t : List ℕ). StepsLeft n t) (sym f) x.1))
 
-  pub variable_turn : VariablesLeft n s → (16 ≤ length s) × VariablesLeft n (take (length s - 16) (drop 16 s))
-  variable_turn left =
-      let x = variables_next left l in
-      (x.0.inside, subst (λ (t : List ℕ). VariablesLeft n t) (sym (rest_of s 16)) x.1)
+-- the next variable in a piece of its own
+pub variable_turn : {n : ℕ} {s x t : List ℕ} → VariablesLeft n s → s ≡ x ++ t → length x ≡ 16 → VariableThere n x × VariablesLeft n t
+unfolding number_at
+variable_turn {n} {s} {x} {t} left e l =
+    let next = variables_next left (omega (arith, ap length e, length-append x t, l)) in (
+      record {
+        inside = omega (arith, l);
+        named = subst (λ (b : List ℕ). num b < n) (ap (take 2) e ∙ take-append-le 2 x t (omega (arith, l))) next.0.named;
+      },
+      subst (λ (b : List ℕ). VariablesLeft n b) (ap (drop 16) e ∙ drop_at x t 16 l) next.1,
+    )

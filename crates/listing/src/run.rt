@@ -23,21 +23,13 @@ impl<'a, P: Print> Printer<'a, P> {
         }
     }
 
-    // The line at the front of the buffer, of so many bytes.
-    fn line(&self, size: usize) -> io::Result<()>
-        requires { size ≤ 8192 }
+    // A line of something, made at the front of the buffer and printed.
+    fn line<T, M: FnOnce(T, &mut [u8]) -> usize>(&mut self, make: M, of: T) -> io::Result<()>
+        requires callable { (out : _) → length out.now ≡ 8192 → M.pre make of out }
+        requires short { (out size left : _) → M.post make of out size left → size ≤ 8192 }
     {
+        let size = make(of, &mut self.out);
         self.rt.write_all(&self.out[..size])
-    }
-
-    fn refusal(&mut self, number: u64) -> io::Result<()> {
-        let size = text::refusal_line(number, &mut self.out);
-        self.line(size)
-    }
-
-    fn header(&mut self, head: HeadBytes) -> io::Result<()> {
-        let size = text::header(head, &mut self.out);
-        self.line(size)
     }
 
     // By lengths: where the next step is only a step's own size says.
@@ -47,28 +39,18 @@ impl<'a, P: Print> Printer<'a, P> {
         let mut rest = steps;
         while !rest.is_empty() {
             let step = StepBytes { names, bytes: rest };
-            let size = text::step_line(step, &mut self.out);
-            self.line(size)?;
+            self.line(text::step_line, step)?;
             rest = &rest[step.size()..];
         }
         Ok(())
     }
 
-    fn stop(&mut self, stop: StopBytes) -> io::Result<()> {
-        let size = text::stop_line(stop, &mut self.out);
-        self.line(size)
-    }
-
-    // By lengths, as `steps`.
     fn variables(&mut self, names: Names, variables: &[u8]) -> io::Result<()>
         requires { VariablesLeft (text_count names.body.now) variables.now }
     {
-        let mut rest = variables;
-        while !rest.is_empty() {
-            let variable = VariableBytes { names, bytes: rest };
-            let size = text::variable_line(variable, &mut self.out);
-            self.line(size)?;
-            rest = &rest[VariableBytes::SIZE..];
+        for bytes in variables.chunks_exact(VariableBytes::SIZE) {
+            let variable = VariableBytes { names, bytes };
+            self.line(text::variable_line, variable)?;
         }
         Ok(())
     }
@@ -82,9 +64,9 @@ impl<'a, P: Print> Printer<'a, P> {
             names,
             bytes: body(record, 0),
         };
-        self.header(head)?;
+        self.line(text::header, head)?;
         self.steps(names, body(record, 2))?;
-        self.stop(stop)?;
+        self.line(text::stop_line, stop)?;
         self.variables(names, body(record, 3))
     }
 
@@ -105,6 +87,7 @@ impl<'a, P: Print> Printer<'a, P> {
 }
 
 // What pair i of a record locates.
+#[tactic(auto, using(crate::proofs::Ready::body_is))]
 fn body(record: &[u8], i: usize) -> &[u8]
     requires { Located «record».now i }
     ensures { result.now ≡ body_at «record».now i }
@@ -115,6 +98,7 @@ fn body(record: &[u8], i: usize) -> &[u8]
 }
 
 // A run with the buffers that the listing lends, and its listing.
+#[tactic(auto, using(crate::proofs::Ready::run_of))]
 pub fn print_listing<P: Print + Drop>(
     rt: &P,
     routine: &[u8],
@@ -128,7 +112,7 @@ pub fn print_listing<P: Print + Drop>(
     let mut printer = Printer::new(rt);
     let answer = emulate::run(routine, world, call, record, workspace);
     if answer.number != 0 {
-        return printer.refusal(answer.number as u64);
+        return printer.line(text::refusal_line, answer.number as u64);
     }
     let size = answer.length as usize;
     printer.listing(routine, &record[..size])

@@ -3,11 +3,13 @@ use mathlib.Core.Path.{◌≡◌, refl, sym, ap, ◌∙◌, subst}
 use mathlib.Core.Bool.{Bool, true, false}
 use mathlib.Core.List.{List}
 use Rattle.std.specs.Prelude.{Option, None, Some}
-use Prim.Native.Nat.{ℕ, ◌+◌, ◌-◌, ◌≤◌, ◌<◌}
+use Prim.Native.Nat.{ℕ, ◌+◌, ◌-◌, ◌*◌, ◌≤◌, ◌<◌}
 use native.Mathlib.Nat.{le_refl}
 use native.Mathlib.Omega.{arith}
 use lib.ListN.{length}
+use lib.Seq.{length-sets}
 use Rattle.value.specs.declared.Val.{Val}
+use Rattle.value.specs.Encoding.{val_bytes, value_size}
 use Rattle.files.specs.Spells.{next}
 use Rattle.workspace.specs.Parts.{registers_part}
 use Rattle.workspace.specs.Registers.{value_at}
@@ -52,14 +54,14 @@ module _ {b s r : List ℕ} {n e : ℕ} {w₀ o₀ vals₀ : List ℕ} {i j : �
       pub arg_ready : q ≡ true → ReadyIn (given b s r) w₁
       arg_ready eq = let f = arg_here ne so.fine in ready_after (told (sym (by_true (short_in w₁) eq refl)) (ev.goes f.tree f.spells)) so.ready
 
-      pub args_next : {m : ℕ} {v : Val} {vals' : List ℕ} → q ≡ true → m ≡ next b i → v ≡ value_at (registers_part w₁) 0 → PutsVal vals j v vals' → length vals' ≡ length vals
+      pub args_next : {m : ℕ} {v : Val} {vals' : List ℕ} → q ≡ true → m ≡ next b i → v ≡ value_at (registers_part w₁) 0 → PutsVal vals j v vals'
           → ArgsSoFar b s r n e w₀ o₀ vals₀ m (j + 1) w₁ o₁ vals'
       unfolding result_in
-      args_next {vals' = vals'} eq em ev' put same = record {
+      args_next {v = v} {vals' = vals'} eq em ev' put = record {
         past = omega (arith, so.past, next_past (arg_here ne so.fine) em);
         ready = arg_ready eq;
         fine = args_more ne so.fine em;
-        long = same ∙ so.long;
+        long = ap length put.bytes ∙ length-sets vals (j * value_size) (val_bytes v) ∙ so.long;
         rest = λ p x. args_told (more_one j p)
             (so.rest (more 1 p) (args_evals ne ev (omega (arith, so.long, args_few ne so.fine)) eq em (subst (λ (z : Val). PutsVal vals j z vals') ev' put) p x));
       }

@@ -1,6 +1,7 @@
 // The machine: the cycle of calls that evaluates and executes a routine's nodes in a lent workspace, with what they ask written to a lent part.
 // Results go on in the workspace's registers, and from sibling to sibling a member goes by a loop: the stack grows with a tree's depth alone.
 // What is only read goes from member to member by one reference, a word: by value it would take six, and room for them in each caller's frame.
+// Each member says anew that the workspace is ready for what is read, and the node one of a tree: these join two values each, of which one changes.
 #![tactic(auto)]
 
 ghost use Rattle.std.specs.Prelude.{◌≡◌, ◌<◌, length};
@@ -14,32 +15,35 @@ ghost use Rattle.machine.specs.Post.{ReadyBy, Evals, Executes, Evaluates, Assign
 use files::kinds::Kind;
 use files::nodes;
 use hosting::{Did, Reads, Short};
+use operations::calls::VALUES;
 use operations::{calls, names, places, results, values};
 use stream::Reason;
 use value::{Ty, Val};
 use workspace::registers;
 
 // The value of the expression at node n.
-pub fn eval(reads: Reads, ws: &mut [u8], out: &mut [u8], n: usize) -> Result<Val, Short>
-    requires ready_in { ReadyIn (given reads.nodes.now reads.symbols.now reads.regions.now) ws.old }
-    requires fine { Fine reads.nodes.now n }
-    ensures { Evals reads.entry.nodes.now reads.entry.symbols.now reads.entry.regions.now n ws.old out.old result ws.new out.new }
+pub fn eval(reads: &Reads, ws: &mut [u8], out: &mut [u8], n: usize) -> Result<Val, Short>
+    requires ready_in { ReadyIn (given reads.now.nodes.now reads.now.symbols.now reads.now.regions.now) ws.old }
+    requires fine { Fine reads.now.nodes.now n }
+    ensures { Evals reads.now.nodes.now reads.now.symbols.now reads.now.regions.now n ws.old out.old result ws.new out.new }
 {
-    let ok = evaluate(&reads, ws, out, n);
+    // Read for the proof: that a slice's length is a machine's number is known where the slice is read.
+    let _nodes = reads.nodes;
+    let ok = evaluate(reads, ws, out, n);
     results::outcome(ws, ok)
 }
 
 // What a statement that is the expression at node n does.
-pub fn execute(reads: Reads, ws: &mut [u8], out: &mut [u8], n: usize) -> Result<Did, Short>
-    requires ready_in { ReadyIn (given reads.nodes.now reads.symbols.now reads.regions.now) ws.old }
-    requires fine { Fine reads.nodes.now n }
-    ensures { Executes reads.entry.nodes.now reads.entry.symbols.now reads.entry.regions.now n ws.old out.old result ws.new out.new }
+pub fn execute(reads: &Reads, ws: &mut [u8], out: &mut [u8], n: usize) -> Result<Did, Short>
+    requires ready_in { ReadyIn (given reads.now.nodes.now reads.now.symbols.now reads.now.regions.now) ws.old }
+    requires fine { Fine reads.now.nodes.now n }
+    ensures { Executes reads.now.nodes.now reads.now.symbols.now reads.now.regions.now n ws.old out.old result ws.new out.new }
 {
     if nodes::is(reads.nodes, n, Kind::Assign) {
-        let ok = execute_assign(&reads, ws, out, n);
+        let ok = execute_assign(reads, ws, out, n);
         return results::executed(ws, ok);
     }
-    let ok = evaluate(&reads, ws, out, n);
+    let ok = evaluate(reads, ws, out, n);
     results::noted(ws, nodes::kind(reads.nodes, n), ok)
 }
 
@@ -66,7 +70,7 @@ fn execute_assign(reads: &Reads, ws: &mut [u8], out: &mut [u8], n: usize) -> boo
     if names::write_declared(reads.nodes, ws, left, v) {
         return true;
     }
-    names::write_symbol(reads.nodes, reads.symbols, ws, out, left, v)
+    names::write_symbol(reads, ws, out, left, v)
 }
 
 // The expression at node n is evaluated. Of an Assign the registers also tell what it did.
@@ -78,7 +82,7 @@ fn evaluate(reads: &Reads, ws: &mut [u8], out: &mut [u8], n: usize) -> bool
 {
     match nodes::kind(reads.nodes, n) {
         Kind::Constant => values::constant(reads.nodes, ws, n),
-        Kind::Var => names::variable(reads.nodes, reads.symbols, reads.regions, ws, out, n),
+        Kind::Var => names::variable(reads, ws, out, n),
         Kind::Register => values::register(reads.nodes, ws, n),
         Kind::StringLiteral => values::unknown(ws, Ty::U64),
         Kind::FunctionName => values::unknown(ws, Ty::U64),
@@ -87,7 +91,7 @@ fn evaluate(reads: &Reads, ws: &mut [u8], out: &mut [u8], n: usize) -> bool
         Kind::ConstantCondition => values::decided(reads.nodes, ws, n),
         Kind::Cast => cast(reads, ws, out, n),
         Kind::Deref => deref(reads, ws, out, n),
-        Kind::AddressOf => names::address(reads.nodes, reads.symbols, ws, out, n + 1),
+        Kind::AddressOf => names::address(reads, ws, out, n + 1),
         Kind::Ternary => ternary(reads, ws, out, n),
         Kind::Binary => binary(reads, ws, out, n),
         Kind::Assign => assigned(reads, ws, out, n),
@@ -244,7 +248,7 @@ fn assign_val(reads: &Reads, ws: &mut [u8], out: &mut [u8], left: usize) -> bool
 {
     let v = registers::value(ws, results::RESULT);
     if nodes::is(reads.nodes, left, Kind::Var) {
-        return names::write(reads.nodes, reads.symbols, ws, out, left, v);
+        return names::write(reads, ws, out, left, v);
     }
     if !nodes::is(reads.nodes, left, Kind::Deref) {
         return results::ends(ws, Short::Why(Reason::StoreTo, left as u64));
@@ -333,7 +337,7 @@ fn call(reads: &Reads, ws: &mut [u8], out: &mut [u8], n: usize) -> bool
     requires of_kind { kind_of reads.now.nodes.now n ≡ 14 }
     ensures { Evaluates reads.now.nodes.now reads.now.symbols.now reads.now.regions.now n ws.old out.old result ws.new out.new }
 {
-    let mut vals = [0u8; 224];
+    let mut vals = [0u8; VALUES];
     let first = places::next(reads.nodes, n + 1);
     let end = places::next(reads.nodes, n);
     let Some(count) = args(reads, ws, out, &mut vals, first, end) else {
@@ -349,13 +353,12 @@ fn args(
     reads: &Reads,
     ws: &mut [u8],
     out: &mut [u8],
-    vals: &mut [u8],
+    vals: &mut [u8; VALUES],
     n: usize,
     end: usize,
 ) -> Option<usize>
     requires ready_by { ReadyBy reads.now.nodes.now reads.now.symbols.now reads.now.regions.now ws.old }
     requires fine_args { FineArgs reads.now.nodes.now n end 0 }
-    requires vals_len { length vals.old ≡ 224 }
     ensures { EvaluatesArgs reads.now.nodes.now reads.now.symbols.now reads.now.regions.now n end 0 ws.old out.old result vals.old vals.new ws.new out.new }
 {
     let mut i = n;

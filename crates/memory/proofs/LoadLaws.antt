@@ -16,14 +16,6 @@ pub rest_is : (n v : ℕ) → le (n - 1) (v / 256) ≡ drop 1 (le n v)
 rest_is zero v = refl
 rest_is (suc n) v = let e : suc n - 1 ≡ n = omega arith in rw e
 
-pub first_none : (n v : ℕ) → n ≡ 0 → None ≡ byte_or None (le n v)
-first_none zero v h = refl
-first_none (suc n) v h = absurd (omega arith)
-
-pub first_some : (n v : ℕ) → (n ≡ 0 → ⊥) → Some (v % 256) ≡ byte_or None (le n v)
-first_some zero v h = absurd (h refl)
-first_some (suc n) v h = refl
-
 -- ---- the next byte
 
 -- one of the run's own, or else the image's first
@@ -126,16 +118,6 @@ module _ (m : Overlay Cell) (image : List ℕ) (a n i v here : ℕ) (h : i < n) 
 
   pub load_stop : byte_or (to_byte (find here m)) image ≡ None → plus v (256 ^ i) (load m image (a + i) (n - i)) ≡ None
   load_stop f = ap (plus v (256 ^ i)) (turn None f)
-
-pub load_first : (m : Overlay Cell) (image : List ℕ) (a n : ℕ) → plus 0 (256 ^ 0) (load m image (a + 0) (n - 0)) ≡ load m image a n
-load_first m image a n =
-    let e : a + 0 ≡ a = omega arith in
-    let f : n - 0 ≡ n = omega arith in
-    rw (e, f) (plus_none (load m image a n))
-  where
-    plus_none : (o : Option ℕ) → plus 0 (256 ^ 0) o ≡ o
-    plus_none None = refl
-    plus_none (Some x) = ap Some (omega arith)
 
 pub load_last : (m : Overlay Cell) (image : List ℕ) (a n v p : ℕ) → n ≡ 0 → plus v p (load m image a n) ≡ Some v
 unfolding load gather

@@ -3,7 +3,8 @@ use Rattle.std.proofs.Common.{◌≡◌, ℕ, suc, ◌+◌, ◌-◌, ◌<◌, �
 use lib.Seq.{sets, sets-eq, set_comm}
 use Rattle.std.specs.List.{copy_within}
 use borrow.Rule.Slice.PartMut.{mid_of, put_mid}
-use Rattle.layout.proofs.StoreLaws.{sets_append, put_sets, take_sets, drop_sets, drop_sets_at, drop_take}
+use Rattle.std.proofs.lemmas.List.{drop-take}
+use Rattle.layout.proofs.StoreLaws.{sets_append, put_sets, take_sets, drop_sets, drop_sets_at}
 
 -- ---- bytes move up by g, the last first
 
@@ -20,9 +21,6 @@ get_d_sets_below (a ∷ vs) l k i h = get_d_sets_below vs (set l k a) (suc k) i 
 abbrev pub raised : List ℕ → ℕ → ℕ → ℕ → List ℕ
 raised s g k n = sets s (k + g) (take (n - k) (drop k s))
 
-pub raised_none : (s : List ℕ) (g k : ℕ) → raised s g k k ≡ s
-raised_none s g k = let e : k - k ≡ 0 = omega arith in rw e
-
 raised_suc : (s : List ℕ) (g j n : ℕ) → j < n → j < length s → set (raised s g (suc j) n) (j + g) (get_or (raised s g (suc j) n) j 0) ≡ raised s g j n
 raised_suc s g j n h l =
     let vs : List ℕ = take (n - suc j) (drop (suc j) s) in
@@ -34,9 +32,6 @@ raised_more s g k n p h l =
     let e : k ≡ suc (k - 1) = omega arith in
     subst (λ (x : ℕ). set (raised s g x n) (k - 1 + g) (get_or (raised s g x n) (k - 1) 0) ≡ raised s g (k - 1) n) (sym e)
     (raised_suc s g (k - 1) n (omega arith) (omega arith))
-
-pub raised_all : (s : List ℕ) (g n : ℕ) → raised s g 0 n ≡ sets s g (take n s)
-raised_all s g n = let e : n - 0 ≡ n = omega arith in rw (e, zero-add)
 
 -- ---- bytes come down from g, the first first
 
@@ -111,4 +106,4 @@ part_above s vs i a n h = ap (take n) (drop_sets vs s i a h)
 
 pub part_below : (s vs : List ℕ) (i a n : ℕ) → a + n ≤ i → take n (drop a (sets s i vs)) ≡ take n (drop a s)
 part_below s vs i a n h =
-    sym (drop_take a n (sets s i vs)) ∙ ap (drop a) (take_sets vs s i (a + n) h) ∙ drop_take a n s
+    sym (drop-take a n (sets s i vs)) ∙ ap (drop a) (take_sets vs s i (a + n) h) ∙ drop-take a n s

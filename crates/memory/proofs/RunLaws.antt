@@ -247,10 +247,6 @@ one_byte a b m h l =
 pub stores_as : (m m' : Overlay Cell) (s s' : List ℕ) (r : Result ℕ Full) → m ≡ m' → Stores m s s' r → Stores m' s s' r
 stores_as m m' s s' r e h = subst (λ (x : Overlay Cell). Stores x s s' r) e h
 
-pub stores_all : (m : Overlay Cell) (s s' : List ℕ) (r : Result ℕ Full) → Stores m s s' r → StoresAll m s' r
-stores_all m s s' (Ok n) h = h
-stores_all m s s' (Err e) h = h.0
-
 pub stored_full : (m : Overlay Cell) (s s' : List ℕ) (r : Result ℕ Full) (e : Full) → Stores m s s' r → r ≡ Err e → limit < length m
 stored_full m s s' r e h g = (subst (Stores m s s') g h).0
 

@@ -1,4 +1,5 @@
 // The bytes that a run has written: entries of an address and a byte, ascending by address, in a lent part of the workspace.
+// A count of the entries stands beside the part: this is a fixed place with room for more of them on both sides, so that its length does not tell.
 #![tactic(auto)]
 
 ghost use Rattle.std.specs.Prelude.{◌≡◌, ◌+◌, ◌-◌, ◌*◌, ◌^◌, ◌<◌, ◌≤◌, ◌++◌, length, take, drop};
@@ -52,6 +53,7 @@ impl Image {
     }
 
     // The answer without its first byte.
+    #[tactic(auto, using(crate::proofs::LoadLaws::rest_is))]
     fn rest(self) -> Self
         ensures { le result.count result.number ≡ drop 1 (le self.count self.number) }
     {
@@ -82,6 +84,7 @@ struct Run {
 }
 
 // The place of the first entry.
+#[tactic(auto, using(crate::proofs::PartLaws::first_none, crate::proofs::PartLaws::first_some))]
 fn first_of(part: &[u8], count: usize) -> usize
     requires { Sorted part.now count }
     ensures { result ≡ first_in part.now count }
@@ -115,7 +118,7 @@ pub fn load_number(
     Row::new(part, count, first_of(part, count)).load(image, address, bytes)
 }
 
-// The first n bytes go up by so many entries. (Of this loop the compiler makes a memmove, since the distance is a constant; of the library's copy_within it
+// The first n bytes go up by so many entries: n is no length, since there is room behind them for where they go, and maybe more. (Of this loop the compiler makes a memmove, since the distance is a constant; of the library's copy_within it
 // makes none, and moves take two thirds longer.)
 fn up<const PLACES: usize>(part: &mut [u8], n: usize)
     requires { n + PLACES * entry_size ≤ length part.old }
@@ -193,6 +196,7 @@ fn place(first: usize, count: usize, at: usize, end: usize, next: usize) -> usiz
 }
 
 // The entry at a place.
+#[tactic(auto, using(crate::proofs::WriteLaws::put_entry))]
 fn put_entry(part: &mut [u8], i: usize, address: u64, byte: u8)
     requires { i * entry_size + entry_size ≤ length part.old }
     ensures { part.new ≡ sets part.old (i * entry_size) (entry.write (address, byte)) }

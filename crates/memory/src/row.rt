@@ -36,6 +36,7 @@ impl<'a> Model for Row<'a> {
 
 impl<'a> Row<'a> {
     // The entries of a part, the first of which is at a place that is known.
+    #[tactic(auto, using(crate::proofs::PartLaws::lent, crate::proofs::PartLaws::lent_row))]
     pub fn new(part: &'a [u8], count: usize, first: usize) -> Row<'a>
         requires sorted { Sorted part.now count }
         requires first_told { first ≡ first_in part.now count }
@@ -55,6 +56,7 @@ impl<'a> Row<'a> {
     }
 
     // The address of entry i.
+    #[tactic(auto, using(crate::proofs::RowLaws::row_room))]
     pub fn address(&self, i: usize) -> u64
         requires { i < length self.now }
         ensures { Parts self.now i result }
@@ -63,6 +65,7 @@ impl<'a> Row<'a> {
     }
 
     // The byte of entry i.
+    #[tactic(auto, using(crate::proofs::RowLaws::row_room, crate::proofs::RowLaws::row_byte_in))]
     fn byte(&self, i: usize) -> u8
         requires { i < length self.now }
         ensures { result ≡ byte_in self.now i }
@@ -82,6 +85,7 @@ impl<'a> Row<'a> {
     }
 
     // The byte at an address whose rank is known.
+    #[tactic(auto, using(crate::proofs::RowLaws::found_there, crate::proofs::RowLaws::found_none))]
     fn find_at(&self, address: u64, at: usize) -> Option<u8>
         requires { at ≡ rank address self.now }
         ensures byte { result ≡ to_byte (find_in address self.now) }
@@ -138,6 +142,7 @@ impl<'a> Row<'a> {
     }
 
     // The number of the bytes from an address on. Most loads are of bytes that the run has not written.
+    #[tactic(auto, using(crate::proofs::LoadLaws::load_untouched))]
     pub fn load(&self, image: Image, address: u64, bytes: usize) -> Option<u64>
         requires { bytes ≤ 8 }
         ensures { result ≡ load_in self.now (le image.count image.number) address bytes }
@@ -178,6 +183,7 @@ fn low_bytes(number: u64, bytes: usize) -> u64
 }
 
 // The image's own bytes: a load where the overlay has none.
+#[tactic(auto, using(crate::proofs::LoadLaws::image_short, crate::proofs::LoadLaws::image_full))]
 fn of_image(image: Image, bytes: usize) -> Option<u64>
     requires { bytes ≤ 8 }
     ensures { result ≡ load_in [] (le image.count image.number) 0 bytes }

@@ -7,6 +7,7 @@ use super::row::Row;
 
 impl<'a> Row<'a> {
     // Whether entry i comes before an address, as a number: a sum of such is no branch that the machine could guess wrong.
+    #[tactic(auto, using(crate::proofs::SearchLaws::before_is))]
     fn before(&self, i: usize, address: u64) -> usize
         requires { i < length self.now }
         ensures { result ≡ min 1 (rank address self.now - i) }
@@ -23,6 +24,7 @@ impl<'a> Row<'a> {
     }
 
     // How many of the three entries that part a stretch in quarters come before an address.
+    #[tactic(auto, unfolding(crate::specs::Post::passed))]
     fn quarters(&self, base: usize, quarter: usize, address: u64) -> usize
         requires { (base + 3 * quarter < length self.now) × IsOverlay self.now }
         ensures { result ≡ passed (rank address self.now) base quarter }
@@ -33,6 +35,7 @@ impl<'a> Row<'a> {
     }
 
     // How many of at most four entries come before an address.
+    #[tactic(auto, using(crate::proofs::SearchLaws::last_are, crate::proofs::SearchLaws::four_fit))]
     fn last_four(&self, base: usize, end: usize, address: u64) -> usize
         requires { Lies self.now address base end × (end ≤ base + 4) }
         ensures { base + result ≡ rank address self.now }
@@ -77,6 +80,7 @@ impl<'a> Row<'a> {
     // entries, than its distance from theirs.
     // (Inlined, since a call would write the row to memory first.)
     #[inline(always)]
+    #[tactic(auto, using(crate::proofs::OverlayLaws::rank_most))]
     pub fn lower(&self, address: u64) -> usize
         ensures { result ≡ rank address self.now }
     {

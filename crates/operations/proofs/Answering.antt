@@ -2,7 +2,6 @@
 use Rattle.std.proofs.Common.{◌≡◌, ℕ, zero, suc, ◌*◌, ◌<◌, Bool, true, false, not, ◌&&◌, ◌||◌, eqb, List, sym, refl, ap, ◌∙◌, subst, ap₂, arith, ne_eqb}
 use Rattle.std.specs.Prelude.{Option, None, Some, Result, Ok, Err}
 use mir.Val.{bool_byte}
-use borrow.Author.Tests.{not-true, not-false}
 use Rattle.layout.specs.Format.{bool_of}
 use Rattle.value.specs.declared.Ty.{Ty}
 use Rattle.value.specs.declared.Val.{Val}
@@ -29,11 +28,10 @@ use Rattle.operations.specs.declared.results.Told.{Told}
 use Rattle.operations.specs.declared.results.Told.TheVariants as told
 use Rattle.stream.specs.declared.Reason.{Reason}
 use Rattle.stream.specs.declared.Reason.TheVariants.{ByZero}
-use Rattle.stream.specs.Bodies.{reason_number, reason_at}
-use Rattle.stream.proofs.BodyLaws.{numbered_back}
+use Rattle.stream.specs.Bodies.{reason_at}
 use Rattle.hosting.specs.Ending.{ended, end_of, did_of, done_of, note_of, answer_end}
-use Rattle.operations.specs.Registers.{counts_in, short_at, short_in, result_in, told_at, kind_in, told_in, did_write, did_by, end_in, told_end}
-use Rattle.operations.specs.Steps.{Gives, GivesShort, Tells, Answers, Enters, EntersCounts, EntersHow, noted_end}
+use Rattle.operations.specs.Registers.{counts_in, short_at, short_in, result_in, told_at, kind_in, told_in, did_write, did_by, end_in}
+use Rattle.operations.specs.Steps.{Gives, GivesShort, TellsPlace, Tells, Answers, Enters, EntersCounts, EntersHow, noted_end}
 use Rattle.operations.specs.Steps as steps
 use Rattle.operations.proofs.Registers.{counts_by_lem, how_by, short_by, told_by, counts_kept, result_value, aside_aside, beside_beside, beside_word, beside_value}
 use Rattle.operations.proofs.Going.{by_true, by_false}
@@ -61,40 +59,42 @@ gives_short {z = z} {w₂ = w₂} e p q = record {
   why = short_by w₂ z.0 z.1 (on q 9 (omega arith) (λ e. absurd (omega (arith, e))) p.here) q.here ∙ e;
 }
 
-pub coded_why : {s : Short} {r : Reason} {n k : ℕ} → s ≡ Why r n → k ≡ reason_number r → short_at (reason_at k) n ≡ s
-coded_why {r = r} {n} e q = ap (λ (o : Option Reason). short_at o n) (ap reason_at q ∙ numbered_back r) ∙ sym e
+pub tells_place : {w : List ℕ} {k : Told} {t x : ℕ} {w₁ w₂ : List ℕ} → told_at t ≡ k → SetsWord w 11 t w₁ → SetsWord w₁ 12 x w₂ → TellsPlace w k x w₂
+unfolding kind_in
+tells_place e p q = record {
+  beside = beside_beside (beside_word (omega arith) p) (beside_word (omega arith) q);
+  told = ap told_at (on q 11 (omega arith) (λ e. absurd (omega (arith, e))) p.here) ∙ e;
+  place = q.here;
+}
 
-module _ {w : List ℕ} {x : ℕ} {w₁ w₂ w₃ : List ℕ} where
-  tells_by : {t : ℕ} {v : Val} → SetsWord w 11 t w₁ → SetsWord w₁ 12 x w₂ → SetsValue w₂ 1 v w₃ → Tells w (did_by (told_at t) x (word_at (registers_part w) 13) v) true w₃
-  tells_by {t} {v} p q r = record {
-    beside = beside_beside (beside_beside (beside_word (omega arith) p) (beside_word (omega arith) q)) (beside_value r);
+module _ {w : List ℕ} {x : ℕ} {w₁ w₂ : List ℕ} where
+  -- with a value, or with how many fields
+  tells_value : {k : Told} {v : Val} → TellsPlace w k x w₁ → SetsValue w₁ 1 v w₂ → Tells w (did_by k x (word_at (registers_part w₁) 13) v) true w₂
+  unfolding kind_in
+  tells_value {v = v} p r = record {
+    beside = beside_beside p.beside (beside_value r);
     yes = refl;
-    told = told_by w₃ t x (word_at (registers_part w) 13) v
-        (r.words 11 (omega arith) ∙ on q 11 (omega arith) (λ e. absurd (omega (arith, e))) p.here)
-        (r.words 12 (omega arith) ∙ q.here)
-        (r.words 13 (omega arith) ∙ on q 13 (omega arith) (λ e. absurd (omega (arith, e))) (on p 13 (omega arith) (λ e. absurd (omega (arith, e))) refl))
-        r.here;
+    told = told_by w₂ (word_at (registers_part w₁) 11) x (word_at (registers_part w₁) 13) v (r.words 11 (omega arith)) (r.words 12 (omega arith) ∙ p.place) (r.words 13 (omega arith)) r.here
+        ∙ ap (λ (k : Told). did_by k x (word_at (registers_part w₁) 13) v) p.told;
   }
 
-  tells_as : {k : Told} {t : ℕ} {v : Val} → told_at t ≡ k → SetsWord w 11 t w₁ → SetsWord w₁ 12 x w₂ → SetsValue w₂ 1 v w₃ → Tells w (did_by k x (word_at (registers_part w) 13) v) true w₃
-  tells_as {v = v} e p q r = subst (λ (k : Told). Tells w (did_by k x (word_at (registers_part w) 13) v) true w₃) e (tells_by p q r)
+  pub tells_wrote : {v : Val} → TellsPlace w told.Wrote x w₁ → SetsValue w₁ 1 v w₂ → Tells w (did_write x v) true w₂
+  tells_wrote p r = tells_value p r
 
-  pub tells_wrote : {t : ℕ} {v : Val} → told_at t ≡ told.Wrote → SetsWord w 11 t w₁ → SetsWord w₁ 12 x w₂ → SetsValue w₂ 1 v w₃ → Tells w (did_write x v) true w₃
-  tells_wrote e p q r = tells_as e p q r
+  pub tells_written : {v : Val} → TellsPlace w told.Written x w₁ → SetsValue w₁ 1 v w₂ → Tells w (did (act.value_written x v)) true w₂
+  tells_written p r = tells_value p r
 
-  pub tells_written : {t : ℕ} {v : Val} → told_at t ≡ told.Written → SetsWord w 11 t w₁ → SetsWord w₁ 12 x w₂ → SetsValue w₂ 1 v w₃ → Tells w (did (act.value_written x v)) true w₃
-  tells_written e p q r = tells_as e p q r
-
-  pub tells_fields : {t n : ℕ} → told_at t ≡ told.Fields → SetsWord w 11 t w₁ → SetsWord w₁ 12 x w₂ → SetsWord w₂ 13 n w₃ → Tells w (did (act.fields_written x n)) true w₃
-  tells_fields {t} {n} e p q r = record {
-    beside = beside_beside (beside_beside (beside_word (omega arith) p) (beside_word (omega arith) q)) (beside_word (omega arith) r);
+  pub tells_fields : {n : ℕ} → TellsPlace w told.Fields x w₁ → SetsWord w₁ 13 n w₂ → Tells w (did (act.fields_written x n)) true w₂
+  unfolding kind_in
+  tells_fields {n} p r = record {
+    beside = beside_beside p.beside (beside_word (omega arith) r);
     yes = refl;
-    told = told_by w₃ t x n (value_at (registers_part w₃) 1)
-        (on r 11 (omega arith) (λ e. absurd (omega (arith, e))) (on q 11 (omega arith) (λ e. absurd (omega (arith, e))) p.here))
-        (on r 12 (omega arith) (λ e. absurd (omega (arith, e))) q.here)
+    told = told_by w₂ (word_at (registers_part w₁) 11) x n (value_at (registers_part w₂) 1)
+        (on r 11 (omega arith) (λ e. absurd (omega (arith, e))) refl)
+        (on r 12 (omega arith) (λ e. absurd (omega (arith, e))) p.place)
         r.here
         refl
-        ∙ ap (λ (k : Told). did_by k x n (value_at (registers_part w₃) 1)) e;
+        ∙ ap (λ (k : Told). did_by k x n (value_at (registers_part w₂) 1)) p.told;
   }
 
 -- ---- what a caller hands over
@@ -164,6 +164,24 @@ other_told (suc (suc n)) z o = refl
 pub told_other : (w : List ℕ) (n : ℕ) → n ≡ word_at (registers_part w) 11 → (n ≡ 0 → ⊥) → (n ≡ 1 → ⊥) → told.Written ≡ kind_in w
 unfolding kind_in
 told_other w n e z o = other_told n z o ∙ ap told_at e
+
+-- the same of a word that is, or is not, a choice's own number
+pub told_same : (w : List ℕ) {n k : ℕ} {t : Told} → n ≡ word_at (registers_part w) 11 → told_at k ≡ t → n ≡ k → t ≡ kind_in w
+unfolding kind_in
+told_same w e et q = sym et ∙ ap told_at (sym q ∙ e)
+
+wrote_number : (k : ℕ) → told_at k ≡ told.Wrote → k ≡ 0
+wrote_number zero e = refl
+wrote_number (suc zero) e = cc
+wrote_number (suc (suc k)) e = cc
+
+fields_number : (k : ℕ) → told_at k ≡ told.Fields → k ≡ 1
+fields_number zero e = cc
+fields_number (suc zero) e = refl
+fields_number (suc (suc k)) e = cc
+
+pub told_neither : (w : List ℕ) {n j k : ℕ} → n ≡ word_at (registers_part w) 11 → told_at j ≡ told.Wrote → told_at k ≡ told.Fields → (n ≡ j → ⊥) → (n ≡ k → ⊥) → told.Written ≡ kind_in w
+told_neither w {n} {j} {k} e ej ek z o = told_other w n e (λ q. z (q ∙ sym (wrote_number j ej))) (λ q. o (q ∙ sym (fields_number k ek)))
 
 -- what an Assign told, by its words
 module _ (w : List ℕ) {t : Told} (et : t ≡ kind_in w) where

@@ -1,5 +1,5 @@
 -- What reading, writing and taking the address of a name is, from what the code did for it. Assumes nothing.
-use Rattle.std.proofs.Common.{◌≡◌, ℕ, zero, suc, ◌+◌, ◌*◌, ◌<◌, ◌≤◌, Bool, true, false, not, List, [], length, sym, refl, ap, ◌∙◌, subst, true≢false, mod-eq_of_lt, arith, eq-eqb, ne_eqb}
+use Rattle.std.proofs.Common.{◌≡◌, ℕ, ◌+◌, ◌*◌, ◌<◌, ◌≤◌, Bool, true, false, not, List, [], length, sym, refl, ap, ◌∙◌, subst, true≢false, mod-eq_of_lt, arith, eq-eqb, ne_eqb}
 use Rattle.std.specs.Prelude.{Option, None, Some}
 use Rattle.std.proofs.lemmas.Option.{none-some}
 use borrow.Author.Tests.{not-true, not-false}
@@ -19,7 +19,8 @@ use Rattle.definition.specs.Evaluate.{Env, Did, width_in, type_or, look, eval_as
 use Rattle.index.specs.Texts.{text_count}
 use Rattle.index.specs.Regions.{RegionsIndexed}
 use Rattle.index.specs.Symbols.{SymbolInside, SymbolsIndexed, AddressOf, SizeOf, symbol_named}
-use Rattle.stream.specs.declared.Symbol.TheVariants as kind
+use Rattle.stream.specs.declared.Symbol.{Symbol}
+use Rattle.stream.specs.declared.Symbol.TheVariants as question
 use Rattle.stream.specs.declared.Reason.TheVariants.{NoWidth}
 use Rattle.hosting.specs.declared.Short.TheVariants.{Why}
 use Rattle.stream.specs.Pieces.{question_bytes, symbol_entry}
@@ -31,27 +32,28 @@ use Rattle.workspace.proofs.LendLaws.{symbols_lent}
 use Rattle.hosting.specs.declared.How.{How}
 use Rattle.hosting.specs.declared.Counts.{Counts}
 use Rattle.hosting.specs.Scene.{Given, given, Scene, SymbolsRead, Meant}
-use Rattle.hosting.specs.Stands.{Stands, stands, Fine}
+use Rattle.hosting.specs.Stands.{Stands, stands}
 use Rattle.hosting.specs.Ending.{Ending, ended}
 use Rattle.hosting.specs.Runs.{Runs}
 use Rattle.hosting.proofs.Shapes.{room, var_name}
 use Rattle.hosting.proofs.Keeping.{get_runs, set_runs}
+use Rattle.operations.specs.At.{VarAt}
 use Rattle.operations.specs.Registers.{counts_in, how_in, short_in, told_in, end_in, told_end, unit_in, did_write}
 use Rattle.operations.specs.Going.{Goes, Works}
 use Rattle.operations.specs.Steps.{Gives, GivesShort, Tells, AtHand}
-use Rattle.operations.specs.Asking.{Sends, LoadsAt, AsksAddress, AsksSize, symbol_val, write_symbol, WritesSymbol, Writes, IfDeclared, Addresses}
+use Rattle.operations.specs.Asking.{Sends, LoadsAt, AsksSymbol, symbol_val, write_symbol, WritesSymbol, Writes, IfDeclared, Addresses}
 use Rattle.operations.proofs.Going.{goes, halts, acts, told, by_true, by_false, done_goes, gives_goes, tells_goes, short_goes}
 use Rattle.operations.proofs.Registers.{counts_same, units_same, how_same}
 use Rattle.operations.proofs.Standing.{standing}
 use Rattle.operations.proofs.Asking.{asks_as, asks_goes, sends_asks}
 
 -- the name of a Var has a slot, and its symbol can be read in the lent part
-module _ {nodes : List ℕ} {n name : ℕ} (fine : Fine nodes n) (kind : kind_of nodes n ≡ 1) (en : name ≡ ref_of nodes n) where
+module _ {nodes : List ℕ} {n name : ℕ} (at : VarAt nodes n) (en : name ≡ ref_of nodes n) where
   pub name_below : name < 512
-  name_below = rw en (var_name kind fine)
+  name_below = rw en (var_name at.var at.fine)
 
   pub symbol_inside : {symbols : List ℕ} (w : List ℕ) → SymbolsRead nodes symbols (tables w) → SymbolInside symbols (part (tables_place + symbols_place) symbols_size w) name
-  symbol_inside w s = rw (symbols_lent w, en) (s.inside n (room fine) kind)
+  symbol_inside w s = rw (symbols_lent w, en) (s.inside n (room at.fine) at.var)
 
 -- ---- the world is asked
 
@@ -63,41 +65,43 @@ size_fits : (x : ℕ) → x < 512 → cut size_of x ≡ x
 unfolding cut
 size_fits x h = mod-eq_of_lt (omega arith)
 
-module _ (nodes symbols : List ℕ) (n name : ℕ) (w o w' o' : List ℕ) (r : Option ℕ) (part : List ℕ) (fine : Fine nodes n) (var : kind_of nodes n ≡ 1) (en : name ≡ ref_of nodes n)
-    (lent : part ≡ symbols_part (tables w)) where
+-- what the index answers to a question of either kind
+abbrev pub Answered : Symbol → (symbols part : List ℕ) → ℕ → Option ℕ → Type 0
+Answered question.AddressOf symbols part name r = AddressOf symbols part name r
+Answered question.SizeOf symbols part name r = SizeOf symbols part name r
+
+module _ (nodes symbols : List ℕ) (n name : ℕ) (w o w' o' : List ℕ) (r : Option ℕ) (part : List ℕ) (at : VarAt nodes n) (en : name ≡ ref_of nodes n) (lent : part ≡ symbols_part (tables w)) where
   -- what the index tells holds of the names that the tables mean
   named : {regions : List ℕ} {h : How} {x : Scene} (m : Meant (given nodes symbols regions h) x (tables w)) → (SymbolsIndexed m.routine_names m.world_names symbols part) × (name < text_count m.routine_names)
-  named {regions} m = (subst (SymbolsIndexed m.routine_names m.world_names symbols) (sym lent) m.symbols, subst (λ (j : ℕ). j < text_count m.routine_names) (sym en) (m.named n (room fine) var))
+  named {regions} m = (subst (SymbolsIndexed m.routine_names m.world_names symbols) (sym lent) m.symbols, subst (λ (j : ℕ). j < text_count m.routine_names) (sym en) (m.named n (room at.fine) at.var))
 
-  pub address_asks : AddressOf symbols part name r → Sends (question_bytes (symbol_entry kind.AddressOf name r)) w o w' o' → AsksAddress nodes symbols n w o r w' o'
-  address_asks is t = record {
-    asks = λ regions. sends_asks (symbol_entry kind.AddressOf name r)
+  pub symbol_asks : (k : Symbol) → Answered k symbols part name r → Sends (question_bytes (symbol_entry k name r)) w o w' o' → AsksSymbol nodes symbols k n w o r w' o'
+  symbol_asks question.AddressOf is t = record {
+    asks = λ regions. sends_asks (symbol_entry question.AddressOf name r)
         (λ h x m.
         let z = named m in
-        ap (x.world address_of) (name_fits (ref_of nodes n) (var_name var fine)) ∙ m.addresses (ref_of nodes n)
+        ap (x.world address_of) (name_fits (ref_of nodes n) (var_name at.var at.fine)) ∙ m.addresses (ref_of nodes n)
         ∙ sym (is.is m.routine_names m.world_names z.0 z.1 ∙ ap (λ (j : ℕ). address_in (symbol_named m.routine_names m.world_names symbols j)) en))
-        (ap (λ (j : ℕ). (address_of, (j, r))) (en ∙ sym (name_fits (ref_of nodes n) (var_name var fine)))) t;
+        (ap (λ (j : ℕ). (address_of, (j, r))) (en ∙ sym (name_fits (ref_of nodes n) (var_name at.var at.fine)))) t;
   }
-
-  pub size_asks : SizeOf symbols part name r → Sends (question_bytes (symbol_entry kind.SizeOf name r)) w o w' o' → AsksSize nodes symbols n w o r w' o'
-  size_asks is t = record {
-    asks = λ regions. sends_asks (symbol_entry kind.SizeOf name r)
+  symbol_asks question.SizeOf is t = record {
+    asks = λ regions. sends_asks (symbol_entry question.SizeOf name r)
         (λ h x m.
         let z = named m in
-        ap (x.world size_of) (size_fits (ref_of nodes n) (var_name var fine)) ∙ m.sizes (ref_of nodes n)
+        ap (x.world size_of) (size_fits (ref_of nodes n) (var_name at.var at.fine)) ∙ m.sizes (ref_of nodes n)
         ∙ sym (is.is m.routine_names m.world_names z.0 z.1 ∙ ap (λ (j : ℕ). size_in (symbol_named m.routine_names m.world_names symbols j)) en))
-        (ap (λ (j : ℕ). (size_of, (j, r))) (en ∙ sym (size_fits (ref_of nodes n) (var_name var fine)))) t;
+        (ap (λ (j : ℕ). (size_of, (j, r))) (en ∙ sym (size_fits (ref_of nodes n) (var_name at.var at.fine)))) t;
   }
 
 -- what the workspace was fit for it is after a question, and after two
-module _ {nodes symbols : List ℕ} {n : ℕ} {w o w₁ o₁ : List ℕ} {r₁ : Option ℕ} (e₁ : AsksAddress nodes symbols n w o r₁ w₁ o₁) where
+module _ {nodes symbols : List ℕ} {n : ℕ} {w o w₁ o₁ : List ℕ} {r₁ : Option ℕ} (e₁ : AsksSymbol nodes symbols question.AddressOf n w o r₁ w₁ o₁) where
   pub asked_room : workspace_size ≤ length w → workspace_size ≤ length w₁
   asked_room h = rw (e₁.asks []).kept.size h
 
   pub asked_symbols : SymbolsRead nodes symbols (tables w) → SymbolsRead nodes symbols (tables w₁)
   asked_symbols s = subst (SymbolsRead nodes symbols) (sym (e₁.asks []).tables) s
 
-  module _ {w₂ o₂ : List ℕ} {r₂ : Option ℕ} (e₂ : AsksSize nodes symbols n w₁ o₁ r₂ w₂ o₂) where
+  module _ {w₂ o₂ : List ℕ} {r₂ : Option ℕ} (e₂ : AsksSymbol nodes symbols question.SizeOf n w₁ o₁ r₂ w₂ o₂) where
     pub sized_room : workspace_size ≤ length w → workspace_size ≤ length w₂
     sized_room h = rw ((e₂.asks []).kept.size, (e₁.asks []).kept.size) h
 
@@ -126,17 +130,17 @@ sized_val a z = elim z [ None ↦ done nothing | Some bits ↦ load a (type bits
 abbrev placed_val : Env → ℕ → Option ℕ → Act Val
 placed_val E x z = elim z [ None ↦ done (unknown_val (type_or (E.declared x))) | Some a ↦ ask size_of x (λ size. sized_val a (width_in size)) ]
 
-module _ {nodes symbols regions : List ℕ} {n : ℕ} {w o w₁ o₁ : List ℕ} {r₁ : Option ℕ} (e₁ : AsksAddress nodes symbols n w o r₁ w₁ o₁) where
-  pub symbol_none : {r : Bool} {name : ℕ} {w' : List ℕ} → Fine nodes n → kind_of nodes n ≡ 1 → name ≡ ref_of nodes n → r₁ ≡ None → Gives w₁ (unknown_val (type_or (declared_at (tables w₁) name))) r w'
+module _ {nodes symbols regions : List ℕ} {n : ℕ} {w o w₁ o₁ : List ℕ} {r₁ : Option ℕ} (e₁ : AsksSymbol nodes symbols question.AddressOf n w o r₁ w₁ o₁) where
+  pub symbol_none : {r : Bool} {name : ℕ} {w' : List ℕ} → VarAt nodes n → name ≡ ref_of nodes n → r₁ ≡ None → Gives w₁ (unknown_val (type_or (declared_at (tables w₁) name))) r w'
       → Goes (given nodes symbols regions) (λ s. symbol_val s.env (ref_of nodes n)) w o (end_in r w') w' o₁
   unfolding symbol_val
-  symbol_none {w' = w'} fine kind en k e =
+  symbol_none {w' = w'} at en k e =
       asks_goes (λ v. placed_val v.env (ref_of nodes n)) (asks_as k (e₁.asks regions))
       (acts
-      (λ h v m. ap (λ (t : Option Ty). done (unknown_val (type_or t))) (sym (m.declared (ref_of nodes n) (var_name kind fine)) ∙ ap (declared_at (tables w₁)) (sym en)))
+      (λ h v m. ap (λ (t : Option Ty). done (unknown_val (type_or t))) (sym (m.declared (ref_of nodes n) (var_name at.var at.fine)) ∙ ap (declared_at (tables w₁)) (sym en)))
       (gives_goes e))
 
-  module _ {a : ℕ} (k₁ : r₁ ≡ Some a) {w₂ o₂ : List ℕ} {r₂ : Option ℕ} (e₂ : AsksSize nodes symbols n w₁ o₁ r₂ w₂ o₂) {z : Option ℕ} (ez : z ≡ width_in r₂) where
+  module _ {a : ℕ} (k₁ : r₁ ≡ Some a) {w₂ o₂ : List ℕ} {r₂ : Option ℕ} (e₂ : AsksSymbol nodes symbols question.SizeOf n w₁ o₁ r₂ w₂ o₂) {z : Option ℕ} (ez : z ≡ width_in r₂) where
     from_size : {y : Option ℕ} {e : Ending Val} {w' o' : List ℕ} → z ≡ y → Goes (given nodes symbols regions) (λ s. sized_val a y) w₂ o₂ e w' o'
         → Goes (given nodes symbols regions) (λ s. symbol_val s.env (ref_of nodes n)) w o e w' o'
     unfolding symbol_val
@@ -216,7 +220,7 @@ module _ (nodes symbols : List ℕ) (n k : ℕ) {w o : List ℕ} (p : k ≡ kind
       go : (regions : List ℕ) (t : Tree) → Stands nodes n t → Goes (given nodes symbols regions) (λ x. address_val x.env (look x.env t)) w o (end_in r w') w' o
       go regions _ (stands {ts = ts} i h) = acts (λ j x _. address_other x.env _ (ne_eqb _ _ (λ z. ne (p ∙ z)))) (gives_goes e)
 
-  module _ (k1 : k ≡ 1) {r₁ : Option ℕ} {w₁ o₁ : List ℕ} (e₁ : AsksAddress nodes symbols n w o r₁ w₁ o₁) where
+  module _ (k1 : k ≡ 1) {r₁ : Option ℕ} {w₁ o₁ : List ℕ} (e₁ : AsksSymbol nodes symbols question.AddressOf n w o r₁ w₁ o₁) where
     from_address : {r : Bool} {w' : List ℕ} (y : Option ℕ) → r₁ ≡ y → Gives w₁ (place_val y) r w' → Addresses nodes symbols n w o r w' o₁
     unfolding look
     from_address {r} {w'} y ey e = record { goes = go }
@@ -263,7 +267,7 @@ set_told {g} {x} {name} {v} {c} {w} {w₁} {w'} {o} {r} en ec ch t =
     } in
     goes _ s (tells_goes tells)
 
-module _ {nodes symbols : List ℕ} {n : ℕ} {w o w₁ o₁ : List ℕ} {r₁ : Option ℕ} {name : ℕ} (v : Val) (e₁ : AsksAddress nodes symbols n w o r₁ w₁ o₁) (en : name ≡ ref_of nodes n) where
+module _ {nodes symbols : List ℕ} {n : ℕ} {w o w₁ o₁ : List ℕ} {r₁ : Option ℕ} {name : ℕ} (v : Val) (e₁ : AsksSymbol nodes symbols question.AddressOf n w o r₁ w₁ o₁) (en : name ≡ ref_of nodes n) where
   pub symbol_sets : {w₂ w' : List ℕ} {r : Bool} → r₁ ≡ None → Changes w₁ (setting name v) w₂ → Tells w₂ (did_write name v) r w' → WritesSymbol nodes symbols n v w o r w' o₁
   unfolding write_symbol ◌>>=◌
   symbol_sets k c t = record {
@@ -271,7 +275,7 @@ module _ {nodes symbols : List ℕ} {n : ℕ} {w o w₁ o₁ : List ℕ} {r₁ :
         asks_goes (λ x z. and_told (ref_of nodes n) (placed_write (ref_of nodes n) v z)) (asks_as k (e₁.asks regions)) (set_told en refl c t);
   }
 
-  module _ {a : ℕ} (k₁ : r₁ ≡ Some a) {w₂ o₂ : List ℕ} {r₂ : Option ℕ} (e₂ : AsksSize nodes symbols n w₁ o₁ r₂ w₂ o₂) {z : Option ℕ} (ez : z ≡ width_in r₂) where
+  module _ {a : ℕ} (k₁ : r₁ ≡ Some a) {w₂ o₂ : List ℕ} {r₂ : Option ℕ} (e₂ : AsksSymbol nodes symbols question.SizeOf n w₁ o₁ r₂ w₂ o₂) {z : Option ℕ} (ez : z ≡ width_in r₂) where
     from_width : {y : Option ℕ} {e : Ending Did} {w' : List ℕ} → z ≡ y → (regions : List ℕ) → Goes (given nodes symbols regions) (λ s. and_told (ref_of nodes n) (sized_write (ref_of nodes n) a v y)) w₂ o₂ e w' o₂
         → Goes (given nodes symbols regions) (λ s. and_told (ref_of nodes n) (write_symbol (ref_of nodes n) v)) w o e w' o₂
     unfolding write_symbol ◌>>=◌
@@ -314,7 +318,7 @@ val_var : (E : Env) (l : Term) (v : Val) → is Var l ≡ true → assign_val E 
 unfolding assign_val
 val_var E l v e = rw (e, assign_val)
 
-module _ {nodes : List ℕ} {n : ℕ} {v : Val} {w : List ℕ} {name : ℕ} (fine : Fine nodes n) (kind : kind_of nodes n ≡ 1) (en : name ≡ ref_of nodes n) where
+module _ {nodes : List ℕ} {n : ℕ} {v : Val} {w : List ℕ} {name : ℕ} (at : VarAt nodes n) (en : name ≡ ref_of nodes n) where
   -- a run of what is written with the type that the tables tell
   from_declared : {r : Bool} {symbols o w' o' : List ℕ} (z : Option Ty) → z ≡ declared_at (tables w) name → ((regions : List ℕ) → Goes (given nodes symbols regions) (λ x. and_told (ref_of nodes n) (write_as (ref_of nodes n) v z)) w o (told_end r w') w' o')
       → Writes nodes symbols n v w o r w' o'
@@ -324,14 +328,14 @@ module _ {nodes : List ℕ} {n : ℕ} {v : Val} {w : List ℕ} {name : ℕ} (fin
       go : (regions : List ℕ) (t : Tree) → Stands nodes n t → Goes (given nodes symbols regions) (λ x. assign_val x.env (look x.env t) v) w o (told_end r w') w' o'
       go regions _ (stands {ts = ts} i h) =
           acts
-          (λ j x m. val_var x.env (look x.env (tree (node_of nodes n) ts)) v (eq-eqb _ _ kind)
-          ∙ ap (and_told (ref_of nodes n)) (writes_as x.env (ref_of nodes n) v ∙ ap (write_as (ref_of nodes n) v) (sym (m.declared (ref_of nodes n) (var_name kind fine)) ∙ ap (declared_at (tables w)) (sym en) ∙ sym ez)))
+          (λ j x m. val_var x.env (look x.env (tree (node_of nodes n) ts)) v (eq-eqb _ _ at.var)
+          ∙ ap (and_told (ref_of nodes n)) (writes_as x.env (ref_of nodes n) v ∙ ap (write_as (ref_of nodes n) v) (sym (m.declared (ref_of nodes n) (var_name at.var at.fine)) ∙ ap (declared_at (tables w)) (sym en) ∙ sym ez)))
           (f regions)
 
-module _ {nodes : List ℕ} {n : ℕ} {v : Val} {w : List ℕ} {name : ℕ} {d : Option Ty} (fine : Fine nodes n) (kind : kind_of nodes n ≡ 1) (en : name ≡ ref_of nodes n)
+module _ {nodes : List ℕ} {n : ℕ} {v : Val} {w : List ℕ} {name : ℕ} {d : Option Ty} (at : VarAt nodes n) (en : name ≡ ref_of nodes n)
     (ed : d ≡ declared_at (tables w) name) where
   declared_writes : {t : Ty} {c : Val} {r : Bool} {symbols o w₁ w' : List ℕ} → d ≡ Some t → c ≡ cast_to v t → Changes w (setting name c) w₁ → Tells w₁ (did_write name c) r w' → Writes nodes symbols n v w o r w' o
-  declared_writes {t} p ec ch e = from_declared fine kind en (Some t) (sym p ∙ ed) (λ regions. set_told en ec ch e)
+  declared_writes {t} p ec ch e = from_declared at en (Some t) (sym p ∙ ed) (λ regions. set_told en ec ch e)
 
   pub if_declared : {t : Ty} {c : Val} {r : Bool} {w₁ w' : List ℕ} → d ≡ Some t → c ≡ cast_to v t → Changes w (setting name c) w₁ → Tells w₁ (did_write name c) r w' → IfDeclared nodes n v w r w'
   if_declared {w' = w'} p ec ch e = record {
@@ -353,8 +357,8 @@ module _ {nodes : List ℕ} {n : ℕ} {v : Val} {w : List ℕ} {q : Bool} {w₁ 
   pub undeclared_symbols : {symbols : List ℕ} → SymbolsRead nodes symbols (tables w) → SymbolsRead nodes symbols (tables w₁)
   undeclared_symbols {symbols} s = subst (λ (y : List ℕ). SymbolsRead nodes symbols (tables y)) (sym (d.no z).1) s
 
-pub symbol_writes : {nodes symbols : List ℕ} {n : ℕ} {v : Val} {w w₁ o : List ℕ} {q r : Bool} {w' o' : List ℕ} → Fine nodes n → kind_of nodes n ≡ 1 → IfDeclared nodes n v w q w₁ → q ≡ false
+pub symbol_writes : {nodes symbols : List ℕ} {n : ℕ} {v : Val} {w w₁ o : List ℕ} {q r : Bool} {w' o' : List ℕ} → VarAt nodes n → IfDeclared nodes n v w q w₁ → q ≡ false
     → WritesSymbol nodes symbols n v w₁ o r w' o' → Writes nodes symbols n v w o r w' o'
-symbol_writes {nodes} {symbols} {n} {v} {w} {w₁} {o} {r = r} {w' = w'} {o' = o'} fine kind d z e =
+symbol_writes {nodes} {symbols} {n} {v} {w} {w₁} {o} {r = r} {w' = w'} {o' = o'} at d z e =
     let there : WritesSymbol nodes symbols n v w o r w' o' = subst (λ (y : List ℕ). WritesSymbol nodes symbols n v y o r w' o') (d.no z).1 e in
-    from_declared fine kind refl None (d.no z).0 (λ regions. there.goes regions)
+    from_declared at refl None (d.no z).0 (λ regions. there.goes regions)

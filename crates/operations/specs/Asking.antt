@@ -10,6 +10,8 @@ use Rattle.definition.specs.Act.{Act, done, fail, ask, set, no_width, ◌>>=◌,
 use Rattle.definition.specs.Memory.{load, store_val}
 use Rattle.definition.specs.Term.{nothing}
 use Rattle.definition.specs.Evaluate.{Env, width_in, type_or, look, address_val, assign_val}
+use Rattle.stream.specs.declared.Symbol.{Symbol}
+use Rattle.stream.specs.declared.Symbol.TheVariants.{AddressOf, SizeOf}
 use Rattle.stream.specs.Stream.{placed, advanced}
 use Rattle.workspace.specs.Parts.{tables, questions_part}
 use Rattle.workspace.specs.Types.{declared_at}
@@ -54,12 +56,14 @@ pub record LoadsAt (regions : List ℕ) (address : ℕ) (t : Ty) (w₀ o₀ : Li
 
 -- ---- symbols
 
--- of the name at node n, whatever the regions are
-pub record AsksAddress (nodes symbols : List ℕ) (n : ℕ) (w o : List ℕ) (r : Option ℕ) (w' o' : List ℕ) : Type 0 where
-  pub asks : (regions : List ℕ) → Asks (given nodes symbols regions) address_of (ref_of nodes n) r w o w' o'
+-- a question of either kind is asked of the symbol of a name
+abbrev pub AsksOf : (How → Given) → Symbol → ℕ → Option ℕ → (w o w' o' : List ℕ) → Type 0
+AsksOf g AddressOf x y w o w' o' = Asks g address_of x y w o w' o'
+AsksOf g SizeOf x y w o w' o' = Asks g size_of x y w o w' o'
 
-pub record AsksSize (nodes symbols : List ℕ) (n : ℕ) (w o : List ℕ) (r : Option ℕ) (w' o' : List ℕ) : Type 0 where
-  pub asks : (regions : List ℕ) → Asks (given nodes symbols regions) size_of (ref_of nodes n) r w o w' o'
+-- of the name at node n, whatever the regions are
+pub record AsksSymbol (nodes symbols : List ℕ) (kind : Symbol) (n : ℕ) (w o : List ℕ) (r : Option ℕ) (w' o' : List ℕ) : Type 0 where
+  pub asks : (regions : List ℕ) → AsksOf (given nodes symbols regions) kind (ref_of nodes n) r w o w' o'
 
 -- a name that is not set, read as a symbol
 unfoldable pub symbol_val : Env → ℕ → Act Val

@@ -1,3 +1,4 @@
+pub mod At
 pub mod Registers
 pub mod Going
 pub mod Steps

@@ -11,7 +11,8 @@ use Rattle.definition.specs.Act.{Act, done, fail, unknown_address, Note, no_note
 use Rattle.definition.specs.Memory.{store_val}
 use Rattle.definition.specs.Term.{eval}
 use Rattle.definition.specs.Evaluate.{Did, did, number_in, unknown_note, look, type_or}
-use Rattle.workspace.specs.Parts.{note_part, tables}
+use Rattle.workspace.specs.Parts.{registers_part, note_part, tables}
+use Rattle.workspace.specs.Registers.{word_at}
 use Rattle.workspace.specs.Note.{pending_in}
 use Rattle.workspace.specs.Types.{pointee_at}
 use Rattle.workspace.specs.Post.{Aside}
@@ -19,10 +20,11 @@ use Rattle.hosting.specs.declared.How.{How}
 use Rattle.hosting.specs.declared.Counts.{Counts}
 use Rattle.hosting.specs.declared.Short.{Short}
 use Rattle.operations.specs.declared.places.Target.{Target}
+use Rattle.operations.specs.declared.results.Told.{Told}
 use Rattle.hosting.specs.Scene.{Given}
 use Rattle.hosting.specs.Stands.{Stands, FieldsAt}
 use Rattle.hosting.specs.Ending.{Ending, ended, answer_end}
-use Rattle.operations.specs.Registers.{counts_in, how_in, short_in, result_in, told_in, end_by, end_in}
+use Rattle.operations.specs.Registers.{counts_in, how_in, short_in, result_in, kind_in, told_in, end_by, end_in}
 use Rattle.operations.specs.Going.{Goes, Beside}
 
 -- ---- what is put in the registers
@@ -39,6 +41,12 @@ pub record GivesShort (w : List ℕ) (s : Short) (r : Bool) (w' : List ℕ) : Ty
   pub beside : Beside w w'
   pub no : r ≡ false
   pub why : short_in w' ≡ s
+
+-- an Assign tells what it wrote, and where or to which variable
+pub record TellsPlace (w : List ℕ) (k : Told) (x : ℕ) (w' : List ℕ) : Type 0 where
+  pub beside : Beside w w'
+  pub told : kind_in w' ≡ k
+  pub place : word_at (registers_part w') 12 ≡ x
 
 -- an Assign tells what it did
 pub record Tells (w : List ℕ) (d : Did) (r : Bool) (w' : List ℕ) : Type 0 where

@@ -16,21 +16,22 @@ use workspace::{QUESTIONS, note, registers, types, variables};
 // The bytes of a value.
 const VALUE: usize = 14;
 
+// The bytes of the values of a call's arguments, which are 16 at most.
+pub const VALUES: usize = 16 * VALUE;
+
 // A value among those of a call's arguments, at value k.
-pub fn put_val(vals: &mut [u8], k: usize, v: Val)
-    requires k_bound { k < 16 }
-    requires vals_len { length vals.old ≡ 224 }
+pub fn put_val(vals: &mut [u8; VALUES], k: usize, v: Val)
+    requires { k < 16 }
     ensures { PutsVal vals.old k v vals.new }
 {
     value::encoding::put_val(vals, k * VALUE, v);
 }
 
 // `call` is asked, if the callee is a FunctionName and the depth limit lets it be. The world answers none.
-fn follow(nodes: &[u8], ws: &mut [u8], out: &mut [u8], vals: &[u8], count: usize, n: usize)
+fn follow(nodes: &[u8], ws: &mut [u8], out: &mut [u8], vals: &[u8; VALUES], count: usize, n: usize)
     requires workspace_long { workspace_size ≤ length ws.old }
     requires fine { Fine nodes.now n }
     requires count_bound { count ≤ 16 }
-    requires vals_len { length vals.now ≡ 224 }
     ensures { Follows nodes.now vals.now count n ws.old out.old ws.new out.new }
 {
     if !nodes::is(nodes, n, Kind::FunctionName) {
@@ -88,12 +89,12 @@ fn take_all(nodes: &[u8], ws: &mut [u8], first: usize, end: usize)
     }
 }
 
-// The call at node n, whose arguments have the first values of vals, so many.
+// The call at node n, whose arguments have the first values of vals, so many. (How many stands beside them: a slice of these alone would tell it by a division.)
 pub fn called(
     nodes: &[u8],
     ws: &mut [u8],
     out: &mut [u8],
-    vals: &[u8],
+    vals: &[u8; VALUES],
     count: usize,
     n: usize,
 ) -> bool
@@ -101,7 +102,6 @@ pub fn called(
     requires fine { Fine nodes.now n }
     requires of_kind { kind_of nodes.now n ≡ 14 }
     requires count_bound { count ≤ 16 }
-    requires vals_len { length vals.now ≡ 224 }
     ensures { Calls nodes.now vals.now count n ws.old out.old result ws.new out.new }
 {
     let first = next(nodes, n + 1);

@@ -1,7 +1,7 @@
 // Operations at names: variables, and the world's symbols.
 ghost use Rattle.std.specs.Prelude.{◌≡◌, ◌<◌, ◌≤◌, length, IfSome};
 ghost use Rattle.value.specs.Value.{unknown_val};
-ghost use Rattle.files.specs.Nodes.{kind_of, ref_of};
+ghost use Rattle.files.specs.Nodes.{ref_of};
 ghost use Rattle.definition.specs.Evaluate.{read_variable, type_or, width_in};
 ghost use Rattle.stream.specs.Pieces.{question_bytes, symbol_entry};
 ghost use Rattle.workspace.specs.Parts.{workspace_size, tables};
@@ -9,17 +9,18 @@ ghost use Rattle.workspace.specs.Types.{declared_at};
 ghost use Rattle.workspace.specs.View.{Fit};
 ghost use Rattle.hosting.specs.Scene.{given, SymbolsRead};
 ghost use Rattle.hosting.specs.Stands.{Fine};
+ghost use Rattle.operations.specs.At.{VarAt};
 ghost use Rattle.operations.specs.Registers.{counts_in, end_in};
 ghost use Rattle.operations.specs.Going.{ReadyIn, Goes};
 ghost use Rattle.operations.specs.Steps.{Gives, AtHand};
-ghost use Rattle.operations.specs.Asking.{Sends, AsksAddress, AsksSize, symbol_val, Addresses, WritesSymbol, Writes, IfDeclared};
+ghost use Rattle.operations.specs.Asking.{Sends, AsksSymbol, symbol_val, Addresses, WritesSymbol, Writes, IfDeclared};
 
 use crate::places::{load_at, store_value};
 use crate::results::{ASKED, SECOND, ends, is, wrote};
 use crate::values::{constant_of, unknown};
 use files::kinds::Kind;
 use files::nodes;
-use hosting::Short;
+use hosting::{Reads, Short};
 use index::symbols;
 use stream::{Reason, Symbol};
 use value::{Ty, Val};
@@ -39,33 +40,20 @@ fn tell(ws: &mut [u8], out: &mut [u8], kind: Symbol, name: usize, answer: Option
     registers::set_word(ws, ASKED, cursor);
 }
 
-// `address_of` of the name at node n.
-fn ask_address(nodes: &[u8], symbols: &[u8], ws: &mut [u8], out: &mut [u8], n: usize) -> Option<u64>
+// `address_of` or `size_of` of the name at node n.
+fn ask(reads: &Reads, ws: &mut [u8], out: &mut [u8], kind: Symbol, n: usize) -> Option<u64>
     requires workspace_long { workspace_size ≤ length ws.old }
-    requires symbols_read { SymbolsRead nodes.now symbols.now (tables ws.old) }
-    requires fine { Fine nodes.now n }
-    requires of_kind { kind_of nodes.now n ≡ 1 }
-    ensures { AsksAddress nodes.now symbols.now n ws.old out.old result ws.new out.new }
+    requires symbols_read { SymbolsRead reads.now.nodes.now reads.now.symbols.now (tables ws.old) }
+    requires var_at { VarAt reads.now.nodes.now n }
+    ensures { AsksSymbol reads.now.nodes.now reads.now.symbols.now kind n ws.old out.old result ws.new out.new }
 {
-    let name = nodes::reference(nodes, n);
+    let name = nodes::reference(reads.nodes, n);
     let part = &ws[workspace::SYMBOLS..workspace::REGIONS];
-    let answer = symbols::address_of(symbols, part, name);
-    tell(ws, out, Symbol::AddressOf, name, answer);
-    answer
-}
-
-// `size_of` of the name at node n.
-fn ask_size(nodes: &[u8], symbols: &[u8], ws: &mut [u8], out: &mut [u8], n: usize) -> Option<u64>
-    requires workspace_long { workspace_size ≤ length ws.old }
-    requires symbols_read { SymbolsRead nodes.now symbols.now (tables ws.old) }
-    requires fine { Fine nodes.now n }
-    requires of_kind { kind_of nodes.now n ≡ 1 }
-    ensures { AsksSize nodes.now symbols.now n ws.old out.old result ws.new out.new }
-{
-    let name = nodes::reference(nodes, n);
-    let part = &ws[workspace::SYMBOLS..workspace::REGIONS];
-    let answer = symbols::size_of(symbols, part, name);
-    tell(ws, out, Symbol::SizeOf, name, answer);
+    let answer = match kind {
+        Symbol::AddressOf => symbols::address_of(reads.symbols, part, name),
+        Symbol::SizeOf => symbols::size_of(reads.symbols, part, name),
+    };
+    tell(ws, out, kind, name, answer);
     answer
 }
 
@@ -99,47 +87,31 @@ fn undefined(ws: &mut [u8], name: usize) -> bool
 }
 
 // The value of the symbol of the name at node n.
-fn symbol(
-    nodes: &[u8],
-    symbols: &[u8],
-    regions: &[u8],
-    ws: &mut [u8],
-    out: &mut [u8],
-    n: usize,
-) -> bool
-    requires ready_in { ReadyIn (given nodes.now symbols.now regions.now) ws.old }
-    requires fine { Fine nodes.now n }
-    requires of_kind { kind_of nodes.now n ≡ 1 }
-    ensures { Goes (given nodes.now symbols.now regions.now) (λ x. symbol_val x.env (ref_of nodes.now n)) ws.old out.old (end_in result ws.new) ws.new out.new }
+fn symbol(reads: &Reads, ws: &mut [u8], out: &mut [u8], n: usize) -> bool
+    requires ready_in { ReadyIn (given reads.now.nodes.now reads.now.symbols.now reads.now.regions.now) ws.old }
+    requires var_at { VarAt reads.now.nodes.now n }
+    ensures { Goes (given reads.now.nodes.now reads.now.symbols.now reads.now.regions.now) (λ x. symbol_val x.env (ref_of reads.now.nodes.now n)) ws.old out.old (end_in result ws.new) ws.new out.new }
 {
-    let Some(a) = ask_address(nodes, symbols, ws, out, n) else {
-        return undefined(ws, nodes::reference(nodes, n));
+    let Some(a) = ask(reads, ws, out, Symbol::AddressOf, n) else {
+        return undefined(ws, nodes::reference(reads.nodes, n));
     };
-    let size = ask_size(nodes, symbols, ws, out, n);
+    let size = ask(reads, ws, out, Symbol::SizeOf, n);
     let Some(bits) = width_of(size) else {
         return unknown(ws, Ty::I64);
     };
-    load_at(regions, ws, out, a, Ty::new(bits, true))
+    load_at(reads.regions, ws, out, a, Ty::new(bits, true))
 }
 
 // The value of the variable at node n: what it is set to, else its symbol's.
-pub fn variable(
-    nodes: &[u8],
-    symbols: &[u8],
-    regions: &[u8],
-    ws: &mut [u8],
-    out: &mut [u8],
-    n: usize,
-) -> bool
-    requires ready_in { ReadyIn (given nodes.now symbols.now regions.now) ws.old }
-    requires fine { Fine nodes.now n }
-    requires of_kind { kind_of nodes.now n ≡ 1 }
-    ensures { Goes (given nodes.now symbols.now regions.now) (λ x. read_variable x.env (ref_of nodes.now n)) ws.old out.old (end_in result ws.new) ws.new out.new }
+pub fn variable(reads: &Reads, ws: &mut [u8], out: &mut [u8], n: usize) -> bool
+    requires ready_in { ReadyIn (given reads.now.nodes.now reads.now.symbols.now reads.now.regions.now) ws.old }
+    requires var_at { VarAt reads.now.nodes.now n }
+    ensures { Goes (given reads.now.nodes.now reads.now.symbols.now reads.now.regions.now) (λ x. read_variable x.env (ref_of reads.now.nodes.now n)) ws.old out.old (end_in result ws.new) ws.new out.new }
 {
-    let slot = variables::variable(ws, nodes::reference(nodes, n));
+    let slot = variables::variable(ws, nodes::reference(reads.nodes, n));
     match slot {
         Some(v) => is(ws, v),
-        None => symbol(nodes, symbols, regions, ws, out, n),
+        None => symbol(reads, ws, out, n),
     }
 }
 
@@ -158,16 +130,16 @@ pub fn at_hand(nodes: &[u8], ws: &[u8], n: usize) -> Option<Val>
 }
 
 // The address of what is at node n.
-pub fn address(nodes: &[u8], symbols: &[u8], ws: &mut [u8], out: &mut [u8], n: usize) -> bool
+pub fn address(reads: &Reads, ws: &mut [u8], out: &mut [u8], n: usize) -> bool
     requires workspace_long { workspace_size ≤ length ws.old }
-    requires symbols_read { SymbolsRead nodes.now symbols.now (tables ws.old) }
-    requires fine { Fine nodes.now n }
-    ensures { Addresses nodes.now symbols.now n ws.old out.old result ws.new out.new }
+    requires symbols_read { SymbolsRead reads.now.nodes.now reads.now.symbols.now (tables ws.old) }
+    requires fine { Fine reads.now.nodes.now n }
+    ensures { Addresses reads.now.nodes.now reads.now.symbols.now n ws.old out.old result ws.new out.new }
 {
-    if !nodes::is(nodes, n, Kind::Var) {
+    if !nodes::is(reads.nodes, n, Kind::Var) {
         return unknown(ws, Ty::U64);
     }
-    match ask_address(nodes, symbols, ws, out, n) {
+    match ask(reads, ws, out, Symbol::AddressOf, n) {
         Some(a) => is(ws, Val::known(a, Ty::U64)),
         None => unknown(ws, Ty::U64),
     }
@@ -176,26 +148,18 @@ pub fn address(nodes: &[u8], symbols: &[u8], ws: &mut [u8], out: &mut [u8], n: u
 // ---- what is written
 
 // A name that is not declared is written: its symbol at its width, else the variable as it is.
-pub fn write_symbol(
-    nodes: &[u8],
-    symbols: &[u8],
-    ws: &mut [u8],
-    out: &mut [u8],
-    n: usize,
-    v: Val,
-) -> bool
+pub fn write_symbol(reads: &Reads, ws: &mut [u8], out: &mut [u8], n: usize, v: Val) -> bool
     requires fit { Fit ws.old (counts_in ws.old).stored }
-    requires symbols_read { SymbolsRead nodes.now symbols.now (tables ws.old) }
-    requires fine { Fine nodes.now n }
-    requires of_kind { kind_of nodes.now n ≡ 1 }
-    ensures { WritesSymbol nodes.now symbols.now n v ws.old out.old result ws.new out.new }
+    requires symbols_read { SymbolsRead reads.now.nodes.now reads.now.symbols.now (tables ws.old) }
+    requires var_at { VarAt reads.now.nodes.now n }
+    ensures { WritesSymbol reads.now.nodes.now reads.now.symbols.now n v ws.old out.old result ws.new out.new }
 {
-    let name = nodes::reference(nodes, n);
-    let Some(a) = ask_address(nodes, symbols, ws, out, n) else {
+    let name = nodes::reference(reads.nodes, n);
+    let Some(a) = ask(reads, ws, out, Symbol::AddressOf, n) else {
         variables::set_variable(ws, name, v);
         return wrote(ws, name, v);
     };
-    let size = ask_size(nodes, symbols, ws, out, n);
+    let size = ask(reads, ws, out, Symbol::SizeOf, n);
     let Some(bits) = width_of(size) else {
         return ends(ws, Short::Why(Reason::NoWidth, name as u64));
     };
@@ -209,8 +173,7 @@ pub fn write_symbol(
 // The variable at node n is assigned with its type, if it is declared; else nothing is done.
 pub fn write_declared(nodes: &[u8], ws: &mut [u8], n: usize, v: Val) -> bool
     requires workspace_long { workspace_size ≤ length ws.old }
-    requires fine { Fine nodes.now n }
-    requires of_kind { kind_of nodes.now n ≡ 1 }
+    requires var_at { VarAt nodes.now n }
     ensures { IfDeclared nodes.now n v ws.old result ws.new }
 {
     let name = nodes::reference(nodes, n);
@@ -226,15 +189,14 @@ pub fn write_declared(nodes: &[u8], ws: &mut [u8], n: usize, v: Val) -> bool
 }
 
 // The variable at node n is assigned: one that is declared, with its type.
-pub fn write(nodes: &[u8], symbols: &[u8], ws: &mut [u8], out: &mut [u8], n: usize, v: Val) -> bool
+pub fn write(reads: &Reads, ws: &mut [u8], out: &mut [u8], n: usize, v: Val) -> bool
     requires fit { Fit ws.old (counts_in ws.old).stored }
-    requires symbols_read { SymbolsRead nodes.now symbols.now (tables ws.old) }
-    requires fine { Fine nodes.now n }
-    requires of_kind { kind_of nodes.now n ≡ 1 }
-    ensures { Writes nodes.now symbols.now n v ws.old out.old result ws.new out.new }
+    requires symbols_read { SymbolsRead reads.now.nodes.now reads.now.symbols.now (tables ws.old) }
+    requires var_at { VarAt reads.now.nodes.now n }
+    ensures { Writes reads.now.nodes.now reads.now.symbols.now n v ws.old out.old result ws.new out.new }
 {
-    if write_declared(nodes, ws, n, v) {
+    if write_declared(reads.nodes, ws, n, v) {
         return true;
     }
-    write_symbol(nodes, symbols, ws, out, n, v)
+    write_symbol(reads, ws, out, n, v)
 }

@@ -9,6 +9,7 @@ ghost use Rattle.workspace.specs.Parts.{workspace_size, tables, regions_part};
 ghost use Rattle.workspace.specs.Types.{type_at};
 ghost use Rattle.workspace.specs.View.{Fit};
 ghost use Rattle.hosting.specs.Stands.{FineFields};
+ghost use Rattle.operations.specs.At.{TypeAt};
 ghost use Rattle.operations.specs.Registers.{counts_in, how_in, result_in, told_end, unit_in};
 ghost use Rattle.operations.specs.Going.{Works};
 ghost use Rattle.operations.specs.Asking.{Sends, found_val, LoadsAt};
@@ -178,13 +179,12 @@ pub fn store(ws: &mut [u8], n: usize, ty: Ty, v: Val) -> bool
 // The last result is stored as the field at node n, at its offset from an address.
 pub fn store_field(nodes: &[u8], ws: &mut [u8], n: usize, address: u64) -> bool
     requires fit { Fit ws.old (counts_in ws.old).stored }
-    requires node_inside { n * 20 + 20 ≤ length nodes.now }
-    requires n_bound { ref_of nodes.now n < 512 }
+    requires typed { TypeAt nodes.now n }
     ensures { Works (store_field address (value_of nodes.now n) (type_at (tables ws.old) (ref_of nodes.now n)) (result_in ws.old)) ws.old (unit_in result ws.new) ws.new }
 {
     let ty = type_of(nodes, ws, n);
     let offset = nodes::value(nodes, n);
-    let place = std::num::wrapping_add_u64(address, offset);
+    let place = address.wrapping_add(offset);
     let v = registers::value(ws, RESULT);
     store_value(ws, place, v.cast(ty))
 }

@@ -7,7 +7,7 @@ ghost use Rattle.stream.specs.Bodies.{reason_at};
 ghost use Rattle.workspace.specs.Parts.{workspace_size};
 ghost use Rattle.hosting.specs.Ending.{end_of, did_of, done_of, note_of};
 ghost use Rattle.operations.specs.Registers.{counts_in, short_at, short_in, did_write, told_at, kind_in, told_in, end_in, told_end};
-ghost use Rattle.operations.specs.Steps.{Gives, GivesShort, Tells, Enters, EntersCounts, EntersHow, noted_end};
+ghost use Rattle.operations.specs.Steps.{Gives, GivesShort, TellsPlace, Tells, Enters, EntersCounts, EntersHow, noted_end};
 
 use files::kinds::Kind;
 use hosting::{Counts, Did, How, Note, Short, Tally};
@@ -114,13 +114,21 @@ pub fn ends(ws: &mut [u8], short: Short) -> bool
     false
 }
 
-// A variable was written.
+// What an Assign told, and where or of which variable.
+fn tells(ws: &mut [u8], told: Told, place: u64)
+    requires { workspace_size ≤ length ws.old }
+    ensures { TellsPlace ws.old told place ws.new }
+{
+    registers::set_word(ws, TOLD, u64::from(told));
+    registers::set_word(ws, WHERE, place);
+}
+
+// A variable was written. (This and the next two share `tells`, and put another value beside what it puts.)
 pub fn wrote(ws: &mut [u8], name: usize, v: Val) -> bool
     requires { workspace_size ≤ length ws.old }
     ensures { Tells ws.old (did_write name v) result ws.new }
 {
-    registers::set_word(ws, TOLD, u64::from(Told::Wrote));
-    registers::set_word(ws, WHERE, name as u64);
+    tells(ws, Told::Wrote, name as u64);
     registers::set_value(ws, WROTE, v);
     true
 }
@@ -130,8 +138,7 @@ pub fn fields(ws: &mut [u8], address: u64, count: u64) -> bool
     requires { workspace_size ≤ length ws.old }
     ensures { Tells ws.old (did (fields_written address count)) result ws.new }
 {
-    registers::set_word(ws, TOLD, u64::from(Told::Fields));
-    registers::set_word(ws, WHERE, address);
+    tells(ws, Told::Fields, address);
     registers::set_word(ws, FIELDS, count);
     true
 }
@@ -141,8 +148,7 @@ pub fn written(ws: &mut [u8], address: u64, v: Val) -> bool
     requires { workspace_size ≤ length ws.old }
     ensures { Tells ws.old (did (value_written address v)) result ws.new }
 {
-    registers::set_word(ws, TOLD, u64::from(Told::Written));
-    registers::set_word(ws, WHERE, address);
+    tells(ws, Told::Written, address);
     registers::set_value(ws, WROTE, v);
     true
 }
@@ -227,20 +233,23 @@ fn notes(note: Note) -> Did
     Did { wrote: None, note }
 }
 
-// What an Assign that did not end short did.
+// What an Assign that did not end short did. (By the word itself: of a `match` on `last_told` the compiler makes the enum's number first.)
 fn did(ws: &[u8]) -> Did
     requires { workspace_size ≤ length ws.now }
     ensures { did_of result ≡ told_in ws.now }
 {
     let place = registers::word(ws, WHERE);
     let value = registers::value(ws, WROTE);
-    match last_told(ws) {
-        Told::Wrote => Did {
+    let told = registers::word(ws, TOLD);
+    if told == u64::from(Told::Wrote) {
+        Did {
             wrote: Some((place as usize, value)),
             note: Note::Nothing,
-        },
-        Told::Fields => notes(Note::Fields(place, registers::word(ws, FIELDS))),
-        Told::Written => notes(Note::Written(place, value)),
+        }
+    } else if told == u64::from(Told::Fields) {
+        notes(Note::Fields(place, registers::word(ws, FIELDS)))
+    } else {
+        notes(Note::Written(place, value))
     }
 }
 

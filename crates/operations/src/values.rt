@@ -1,5 +1,5 @@
 // Operations that give a value, and do nothing else.
-ghost use Rattle.std.specs.Prelude.{◌≡◌, ◌+◌, ◌*◌, ◌<◌, ◌≤◌, true, false, length};
+ghost use Rattle.std.specs.Prelude.{◌≡◌, ◌+◌, ◌*◌, ◌≤◌, true, false, length};
 ghost use Rattle.value.specs.Value.{type, known_val, unknown_val, cast_to};
 ghost use Rattle.value.specs.Operators.{binary_of, operator_of};
 ghost use Rattle.files.specs.Nodes.{flag_of, ref_of, width_of};
@@ -7,6 +7,7 @@ ghost use Rattle.files.specs.Nodes as field;
 ghost use Rattle.definition.specs.Evaluate.{chosen, value_of};
 ghost use Rattle.workspace.specs.Parts.{workspace_size, tables};
 ghost use Rattle.workspace.specs.Types.{type_at};
+ghost use Rattle.operations.specs.At.{TypeAt};
 ghost use Rattle.operations.specs.Registers.{result_in, told_in};
 ghost use Rattle.operations.specs.Steps.{Gives, Answers};
 
@@ -118,8 +119,7 @@ pub fn value_of(ws: &mut [u8]) -> bool
 // The type that a node refers to.
 pub fn type_of(nodes: &[u8], ws: &[u8], n: usize) -> Ty
     requires workspace_long { workspace_size ≤ length ws.now }
-    requires node_inside { n * 20 + 20 ≤ length nodes.now }
-    requires n_bound { ref_of nodes.now n < 512 }
+    requires typed { TypeAt nodes.now n }
     ensures { result ≡ type_at (tables ws.now) (ref_of nodes.now n) }
 {
     types::type_of(ws, nodes::reference(nodes, n))
@@ -128,8 +128,7 @@ pub fn type_of(nodes: &[u8], ws: &[u8], n: usize) -> Ty
 // A Cast of the last result.
 pub fn cast(nodes: &[u8], ws: &mut [u8], n: usize) -> bool
     requires workspace_long { workspace_size ≤ length ws.old }
-    requires node_inside { n * 20 + 20 ≤ length nodes.now }
-    requires n_bound { ref_of nodes.now n < 512 }
+    requires typed { TypeAt nodes.now n }
     ensures { Gives ws.old (cast_to (result_in ws.old) (type_at (tables ws.old) (ref_of nodes.now n))) result ws.new }
 {
     let ty = type_of(nodes, ws, n);

@@ -1,4 +1,4 @@
-// The record put together in its buffer: the bodies' lengths, and each body through its own part.
+// The record put together in its buffer: the bodies' lengths, and each body through its own part. (`stored` goes beside the workspace, which says why.)
 ghost use Rattle.std.specs.Prelude.{◌≡◌, ◌+◌, ◌*◌, ◌<◌, ◌≤◌, length};
 ghost use Rattle.std.proofs.lemmas.List.Edits.{sets};
 ghost use Rattle.memory.specs.Entries.{memory_body};

@@ -34,7 +34,7 @@ fn evaluate_in(routine: &[u8], n: usize, ws: &mut [u8], regions: usize) -> Resul
     };
     let at = super::no_counts(Limits::STEPS as u64);
     results::enter(ws, how, at);
-    machine::eval(reads, ws, &mut out, n)
+    machine::eval(&reads, ws, &mut out, n)
 }
 
 pub fn evaluate(routine: &[u8], n: usize, ws: &mut [u8]) -> Result<Val, Short>

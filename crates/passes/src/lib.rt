@@ -6,7 +6,7 @@ pub mod accepted;
 pub mod bodies;
 pub mod evaluation;
 
-ghost use Rattle.std.specs.Prelude.{◌≡◌, true, false, ◌+◌, ◌<◌, ◌≤◌, min, length};
+ghost use Rattle.std.specs.Prelude.{◌≡◌, true, false, ◌+◌, ◌<◌, ◌≤◌, length};
 ghost use Rattle.files.specs.FileTable.{body};
 ghost use Rattle.definition.specs.Run.{workspace_needed};
 ghost use Rattle.workspace.specs.Parts.{workspace_size};
@@ -15,7 +15,7 @@ ghost use Rattle.stream.specs.Stream.{most};
 ghost use Rattle.hosting.specs.Setting.{Tabled, given_of, how_of};
 ghost use Rattle.hosting.specs.Walking.{WalksAll, stop_end};
 ghost use Rattle.stream.specs.Bodies.{steps_place};
-ghost use Rattle.passes.specs.Passing.{start_counts, without_room, full_of, Holds, Passes, WalksOf, Keeps, FirstPasses, QuestionsPut};
+ghost use Rattle.passes.specs.Passing.{start_counts, full_of, Holds, Passes, WalksOf, Keeps, FirstPasses, QuestionsPut};
 ghost use Rattle.passes.specs.Writing.{Ended, Exact, Completes};
 ghost use Rattle.passes.specs.Accepted.{ran_of, steps_of};
 
@@ -76,7 +76,7 @@ fn walk_from(
     };
     let facts = index.facts;
     let at = no_counts(limits.steps as u64);
-    walk::walk(bodies, ws, out, how, facts, at)
+    walk::walk(&bodies, ws, out, how, facts, at)
 }
 
 // The walk with the variables that it starts with.
@@ -89,29 +89,12 @@ fn walk_all(files: Accepted, ws: &mut [u8], out: &mut [u8], index: Indexed, seco
     walk_from(files, ws, out, files.limits(), index, second)
 }
 
-fn is_without_room(short: Short) -> bool
-    ensures { result ≡ without_room short }
-{
-    match short {
-        Short::Full => true,
-        Short::Why(_, _) => false,
-    }
-}
-
 // Whether the workspace had no room for another written address.
+#[tactic(auto, unfolding(crate::specs::Passing::full_of))]
 pub fn is_full(stop: Stop) -> bool
     ensures { result ≡ full_of stop }
 {
-    match stop {
-        Stop::Unknown(_, short) => is_without_room(short),
-        Stop::ReturnedNothing => false,
-        Stop::Returned(_) => false,
-        Stop::Steps => false,
-        Stop::NoBlock(_) => false,
-        Stop::NoBlocks => false,
-        Stop::NoReturn(_) => false,
-        Stop::Halted(_, _) => false,
-    }
+    matches!(stop, Stop::Unknown(_, Short::Full))
 }
 
 // One pass: the walk, and then the variables at the end.
@@ -129,20 +112,13 @@ fn pass(files: Accepted, ws: &mut [u8], out: &mut [u8], index: Indexed, second: 
     r
 }
 
-// Where the steps start in a buffer of n bytes, or its end.
-fn steps_start(n: usize) -> usize
-    ensures { result ≡ min n steps_place }
-{
-    if n < STEPS { n } else { STEPS }
-}
-
-// The first pass.
+// The first pass. The steps go where they start in the buffer, or, in one that is shorter, at its end.
 pub fn first_pass(files: Accepted, buffer: &mut [u8], ws: &mut [u8], index: Indexed) -> Walked
     requires workspace_long { workspace_size ≤ length ws.old }
     requires tabled { Tabled files.routine.now files.world.now ws.old index }
     ensures { FirstPasses (ran_of files.entry) buffer.old ws.old (stop_end (steps_of files.entry) result.stop) buffer.new ws.new result.at }
 {
-    let start = steps_start(buffer.len());
+    let start = buffer.len().min(STEPS);
     pass(files, ws, &mut buffer[start..], index, false)
 }
 

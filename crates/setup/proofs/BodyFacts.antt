@@ -14,7 +14,7 @@ use Rattle.files.specs.Items.{read_from, reading, every}
 use Rattle.files.specs.Names.{names_in}
 use Rattle.files.specs.WorldFile.{symbols_ok, regions_in}
 use Rattle.files.specs.Refusal.{routine_refusal, world_ok, call_ok}
-use Rattle.files.specs.Program.{Program, texts_in, program_of}
+use Rattle.files.specs.Program.{texts_in, program_of}
 use Rattle.files.proofs.Accepted.{call, body_short}
 use Rattle.index.specs.Texts.{Texts, text_count}
 use Rattle.index.specs.Symbols.{Symbols}
@@ -23,10 +23,9 @@ use Rattle.index.specs.Blocks.{Blocks}
 use Rattle.index.proofs.Accepted.{names_read, types_read, routine_types, routine_blocks, world_symbols, world_regions}
 use Rattle.index.proofs.RegionPlaces.{regions_accepted}
 use Rattle.index.proofs.TextPlaces.{types_count}
-use Rattle.hosting.specs.declared.Facts.{Facts}
 use Rattle.std.specs.Prelude.{Option, Some}
 use Rattle.setup.specs.Heads.{Heads}
-use Rattle.setup.specs.Post.{Finds, Returning, Knows, Indexes, IndexesBlocks}
+use Rattle.setup.specs.Post.{Finds, Returning, Knows}
 use Rattle.setup.proofs.HeadLaws.{has, heads}
 
 module _ (r : List ℕ) (h : routine_refusal r ≡ 0) {b : List ℕ} where
@@ -90,17 +89,7 @@ knows r {names} {types} {head} {i = i} {R = R} p q o g a b c =
       named = record { returned = (subst (λ (l : List ℕ). Returning l R) e a).is; unreachable = rw p at b.is; halted = rw p at c.is };
     }
 
--- ---- bodies by their names
-
-pub indexes_named : {a b c d A B C D w w' : List ℕ} {n : ℕ} → a ≡ A → b ≡ B → c ≡ C → d ≡ D → Indexes a b c d w w' n → Indexes A B C D w w' n
-indexes_named p q r s x = rw (p, q, r, s) at x
-
--- how many blocks there are is one of the facts
-pub facts_blocks : {b B w w' : List ℕ} {n : ℕ} {f : Facts} {P : Program} → b ≡ B → IndexesBlocks b w w' n → Knows P n f → IndexesBlocks B w w' f.blocks
-facts_blocks {B = B} {w} {w'} e x k = subst (IndexesBlocks B w w') (sym k.count) (rw e at x)
-
-pub facts_known : {n : ℕ} {f : Facts} {P : Program} → Knows P n f → Knows P f.blocks f
-facts_known k = record { count = refl; named = k.named }
+-- ---- the body of a call
 
 pub call_room : (c : List ℕ) {b : List ℕ} → call_ok c ≡ true → b ≡ body c 0 → 8 ≤ length b
 call_room c h e = omega (arith, (call c h).room, ap length e)

@@ -12,3 +12,4 @@ pub mod EmptyLaws
 pub mod IndexParts
 pub mod BodyFacts
 pub mod Readying
+pub mod EachLaws

@@ -7,7 +7,7 @@ use Prim.Native.Nat.{ℕ, ◌+◌}
 use lib.ListN.{length, get_or}
 use Rattle.value.specs.declared.Ty.{Ty}
 use Rattle.value.specs.declared.Val.{Val}
-use Rattle.value.specs.Value.{type, unknown_val}
+use Rattle.value.specs.Value.{unknown_val}
 use Rattle.spelling.specs.Spelling.{type_of}
 use Rattle.memory.specs.Overlay.{Overlay, find, store}
 use Rattle.files.specs.Program.{Variable, listed, variable_at}

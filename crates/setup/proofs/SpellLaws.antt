@@ -32,14 +32,6 @@ spells_more {t = t} {i} so is e f puts = record {
   declared = λ x. puts.declared x ∙ so.declared x;
 }
 
-spells_fewer : {b w₀ w : List ℕ} {m n : ℕ} → n ≤ m → Spells b m w₀ w → Spells b n w₀ w
-spells_fewer h so = record {
-  kept = so.kept;
-  types = λ i l. so.types i (omega arith);
-  pointees = λ i l. so.pointees i (omega arith);
-  declared = so.declared;
-}
-
 -- ---- the types of the texts: the first i are put, and the text of the next stands at a place, if there is one
 
 pub record Spelling (b w₀ w : List ℕ) (at i : ℕ) : Type 0 where

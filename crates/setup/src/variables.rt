@@ -3,12 +3,34 @@ ghost use Rattle.std.specs.Prelude.{◌≡◌, ◌≤◌, ◌<◌, length, slice
 ghost use Rattle.workspace.specs.Parts.{workspace_size, tables};
 ghost use Rattle.workspace.specs.View.{Changes};
 ghost use Rattle.setup.specs.Heads.{variable_count, parameter_count, AllCoded, argument_if, adding};
+ghost use Rattle.setup.specs.Each.{Callable, Visited};
 ghost use Rattle.setup.specs.Post.{DeclaresSome, Empties, arguments_in, StartsSome, EndsSome};
 
-use crate::head::Head;
+use crate::head::{Head, Named};
 use value::{Ty, Val};
 use workspace::types::{declare, type_of};
 use workspace::variables::{set_variable, variable};
+
+// A variable: which of the head's it is, its name and its type.
+#[derive(Clone, Copy)]
+struct Variable {
+    k: usize,
+    name: usize,
+    ty: Ty,
+}
+
+// The first so many variables, one after another, each put into the workspace as a caller says.
+fn each<F: Fn(&mut [u8], Variable)>(head: Head, count: usize, ws: &mut [u8], put: F)
+    requires counted { count ≤ variable_count head.bytes.now }
+    requires callable { Callable F.Fn put head.bytes.now ws.old count }
+    ensures { Visited F.Fn put head.entry.bytes.now ws.old count ws.new }
+{
+    for k in 0..count {
+        let Named { name, ty } = head.variable_at(k);
+        let ty = type_of(ws, ty);
+        put(ws, Variable { k, name, ty });
+    }
+}
 
 // Each variable is declared with its type; the last of a name stands.
 pub fn declare_all(head: Head, ws: &mut [u8])
@@ -16,11 +38,7 @@ pub fn declare_all(head: Head, ws: &mut [u8])
     ensures { DeclaresSome head.entry.bytes.now (variable_count head.entry.bytes.now) ws.old ws.new }
 {
     let count = head.variable_count();
-    for k in 0..count {
-        let v = head.variable_at(k);
-        let ty = type_of(ws, v.ty);
-        declare(ws, v.name, ty);
-    }
+    each(head, count, ws, |ws, v| declare(ws, v.name, v.ty));
 }
 
 // No variable is set, and there is no note.
@@ -48,11 +66,12 @@ pub fn set_parameters(head: Head, call: &[u8], ws: &mut [u8])
     ensures { StartsSome head.entry.bytes.now call.now (parameter_count head.entry.bytes.now) ws.old ws.new }
 {
     let count = head.parameter_count();
-    for k in 0..count {
-        let v = head.variable_at(k);
-        let ty = type_of(ws, v.ty);
-        set_variable(ws, v.name, argument_as(call, k, ty));
-    }
+    each(
+        head,
+        count,
+        ws,
+        |ws, v| set_variable(ws, v.name, argument_as(call, v.k, v.ty)),
+    );
 }
 
 // A name that is not set becomes unknown.
@@ -73,9 +92,5 @@ pub fn add_unset(head: Head, ws: &mut [u8])
     ensures { EndsSome head.entry.bytes.now (variable_count head.entry.bytes.now) ws.old ws.new }
 {
     let count = head.variable_count();
-    for k in 0..count {
-        let v = head.variable_at(k);
-        let ty = type_of(ws, v.ty);
-        add_if_unset(ws, v.name, ty);
-    }
+    each(head, count, ws, |ws, v| add_if_unset(ws, v.name, v.ty));
 }

@@ -1,1 +1,2 @@
 pub mod Star
+pub mod Fixed

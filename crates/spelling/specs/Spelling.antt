@@ -60,6 +60,15 @@ unsigned_word u w =
     (cond (is_wide_unsigned w) (type 64 false)
     (signed_word u w))))
 
+-- The bits of a signed type of a fixed width, by its name: `u` before it names the unsigned one.
+abbrev pub fixed_bits : List ℕ → Option ℕ
+fixed_bits w =
+    cond (is w "int8_t") (Some 8)
+    (cond (is w "int16_t") (Some 16)
+    (cond (is w "int32_t") (Some 32)
+    (cond (is w "int64_t" || is w "intptr_t") (Some 64)
+    None)))
+
 -- A keyword of C, or what is left. "a bool type is 8 bits unsigned and nothing more"
 unfoldable pub alone : Bool → List ℕ → Ty
 alone u w =

@@ -5,7 +5,7 @@ ghost use Rattle.std.specs.Prelude.{◌≡◌, List, ℕ};
 ghost use Rattle.std.specs.Iterator.{AlwaysYields};
 ghost use Rattle.layout.specs.Text.{same};
 ghost use Rattle.value.specs.Value.{type};
-ghost use Rattle.spelling.specs.Spelling.{pieces, any_unsigned, dropped, is, is_bool, is_wide_unsigned, is_wide_signed, is_short_int, signed_word, unsigned_word, alone, two, named, FoundStar, type_of, pointee_of};
+ghost use Rattle.spelling.specs.Spelling.{pieces, any_unsigned, dropped, is, is_bool, is_short_int, fixed_bits, unsigned_word, alone, two, named, FoundStar, type_of, pointee_of};
 
 use value::Ty;
 
@@ -41,59 +41,44 @@ fn is_bool(w: &[u8]) -> bool
 }
 
 #[tactic(auto, unfolding(crate::specs::Spelling::is))]
-fn is_wide_unsigned(w: &[u8]) -> bool
-    ensures { result ≡ is_wide_unsigned w.now }
-{
-    is(w, b"size_t") || is(w, b"uintptr_t") || is(w, b"uint64_t")
-}
-
-#[tactic(auto, unfolding(crate::specs::Spelling::is))]
-fn is_wide_signed(w: &[u8]) -> bool
-    ensures { result ≡ is_wide_signed w.now }
-{
-    is(w, b"int64_t") || is(w, b"intptr_t") || is(w, b"ssize_t")
-}
-
-#[tactic(auto, unfolding(crate::specs::Spelling::is))]
 fn is_short_int(v: &[u8], w: &[u8]) -> bool
     ensures { result ≡ is_short_int v.now w.now }
 {
     is(v, b"short") && is(w, b"int")
 }
 
-// A base type of one word: a signed type of a fixed width, or any other word.
-#[tactic(auto, using(value::proofs::Pick::held, value::proofs::Pick::failed), unfolding(crate::specs::Spelling::is, crate::specs::Spelling::signed_word))]
-fn type_of_signed(w: &[u8], unsigned: bool) -> Ty
-    ensures { result ≡ signed_word unsigned w.now }
+// The bits of a signed type of a fixed width, by its name.
+#[tactic(auto, using(value::proofs::Pick::held, value::proofs::Pick::failed), unfolding(crate::specs::Spelling::is))]
+fn fixed_bits(name: &[u8]) -> Option<u32>
+    ensures { result ≡ fixed_bits name.now }
 {
-    if is(w, b"int8_t") {
-        Ty::new(8, true)
-    } else if is(w, b"int16_t") {
-        Ty::new(16, true)
-    } else if is(w, b"int32_t") {
-        Ty::new(32, true)
-    } else if is_wide_signed(w) {
-        Ty::I64
+    if is(name, b"int8_t") {
+        Some(8)
+    } else if is(name, b"int16_t") {
+        Some(16)
+    } else if is(name, b"int32_t") {
+        Some(32)
+    } else if is(name, b"int64_t") || is(name, b"intptr_t") {
+        Some(64)
     } else {
-        Ty::new(64, !unsigned)
+        None
     }
 }
 
-// A base type of one word: an unsigned type of a fixed width, or what is left.
-#[tactic(auto, using(value::proofs::Pick::held, value::proofs::Pick::failed), unfolding(crate::specs::Spelling::is, crate::specs::Spelling::unsigned_word))]
-fn type_of_unsigned(w: &[u8], unsigned: bool) -> Ty
+// A base type of one word: of a size, of a fixed width, with `u` before its name where it has no sign, or any other word.
+fn type_of_fixed(w: &[u8], unsigned: bool) -> Ty
     ensures { result ≡ unsigned_word unsigned w.now }
 {
-    if is(w, b"uint8_t") {
-        Ty::U8
-    } else if is(w, b"uint16_t") {
-        Ty::new(16, false)
-    } else if is(w, b"uint32_t") {
-        Ty::new(32, false)
-    } else if is_wide_unsigned(w) {
+    if is(w, b"size_t") {
         Ty::U64
+    } else if is(w, b"ssize_t") {
+        Ty::I64
     } else {
-        type_of_signed(w, unsigned)
+        let behind_u = w.strip_prefix(b"u");
+        match fixed_bits(behind_u.unwrap_or(w)) {
+            Some(bits) => Ty::new(bits, behind_u.is_none()),
+            None => Ty::new(64, !unsigned),
+        }
     }
 }
 
@@ -111,7 +96,7 @@ fn type_of_word(w: &[u8], unsigned: bool) -> Ty
     } else if is(w, b"int") {
         Ty::new(32, !unsigned)
     } else {
-        type_of_unsigned(w, unsigned)
+        type_of_fixed(w, unsigned)
     }
 }
 

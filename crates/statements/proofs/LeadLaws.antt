@@ -6,12 +6,11 @@ use Rattle.std.specs.Prelude.{Option, None, Some, Result, Ok, Err, ok_or}
 use Prim.Native.Nat.{ℕ, zero, suc, ◌+◌, ◌-◌, ◌*◌, ◌≤◌, ◌<◌}
 use native.Mathlib.Nat.{add-zero, add-suc, suc-add}
 use native.Mathlib.Omega.{arith}
-use borrow.Author.Tests.{eq-eqb, ne_eqb}
 use lib.ListN.{length}
 use Rattle.value.specs.declared.Val.{Val}
 use Rattle.layout.specs.Number.{number_at}
 use Rattle.files.specs.Program.{Case, case_of, Statement, listed, statement_at}
-use Rattle.definition.specs.Act.{End, branch_unknown, switch_unknown, no_case, gave, stopped}
+use Rattle.definition.specs.Act.{switch_unknown, no_case, gave, stopped}
 use Rattle.definition.specs.Act as act
 use Rattle.definition.specs.Statements as statements
 use Rattle.definition.specs.Walk as walk
@@ -23,23 +22,11 @@ use Rattle.hosting.specs.declared.Stop.TheVariants.{Unknown}
 use Rattle.hosting.specs.declared.Short.TheVariants.{Why}
 use Rattle.stream.specs.declared.Reason.TheVariants.{NoCase}
 use Rattle.std.specs.declared.ops.ControlFlow.TheVariants.{Continue, Break}
-use Rattle.hosting.specs.Ending.{Ending, ended, short, short_of, end_of}
+use Rattle.hosting.specs.Ending.{ended, short, short_of, end_of}
 use Rattle.hosting.specs.Walking.{unknown_end}
-use Rattle.statements.specs.Endings.{end_end, bind_end, tried_end, stops_end}
+use Rattle.statements.specs.Endings.{end_end, tried_end, stops_end}
 use Rattle.statements.specs.Placing.{Dealt}
-use Rattle.statements.specs.Post.{branches, switches, statements_at, LastIs, AddressIs, Leads}
-
--- ---- a Branch's value
-
-module _ (root taken next : ℕ) (v : Val) where
-  pub branch_unknown_lem : v.known ≡ false → short (Some (branch_unknown root)) ≡ end_end (branches root taken next v)
-  branch_unknown_lem h = rw h
-
-  pub branch_zero : v.known ≡ true → v.number ≡ 0 → ended next ≡ end_end (branches root taken next v)
-  branch_zero h z = rw (h, eq-eqb v.number 0 z)
-
-  pub branch_other : v.known ≡ true → (v.number ≡ 0 → ⊥) → ended taken ≡ end_end (branches root taken next v)
-  branch_other h z = rw (h, ne_eqb v.number 0 z)
+use Rattle.statements.specs.Post.{switches, statements_at, LastIs, AddressIs, Leads}
 
 -- ---- a Switch's value
 
@@ -66,15 +53,6 @@ module _ (root : ℕ) (cases : List Case) (v : Val) where
         go : (a : Option ℕ) → m ≡ a → end_of r ≡ end_end (switches root cases v)
         go None k = ap end_of (q ∙ ap (λ (z : Option ℕ). ok_or z (Why NoCase n)) k) ∙ ap (λ (z : ℕ). short (Some (no_case z))) e ∙ sym (by_case None (case_is k))
         go (Some b) k = ap end_of (q ∙ ap (λ (z : Option ℕ). ok_or z (Why NoCase n)) k) ∙ sym (by_case (Some b) (case_is k))
-
--- ---- with the evaluation's end
-
-module _ (k : Val → End ℕ) {e : Result Val Short} where
-  pub led_is : {v : Val} {l : Ending ℕ} → e ≡ Ok v → l ≡ end_end (k v) → l ≡ bind_end k (end_of e)
-  led_is h q = q ∙ sym (ap (λ (o : Result Val Short). bind_end k (end_of o)) h)
-
-  pub led_ends : {s : Short} → e ≡ Err s → short (short_of s) ≡ bind_end k (end_of e)
-  led_ends h = sym (ap (λ (o : Result Val Short). bind_end k (end_of o)) h)
 
 -- ---- the last statement's address
 
@@ -107,7 +85,7 @@ address_last {ss} {blocks} {p} e l = record { is = λ nodes. l.is nodes ∙ ap (
 
 -- ---- what comes next
 
-pub leads_to : {ss blocks : List ℕ} {p : Place} {address : Option ℕ} {l : Result ℕ Short} {b : ℕ} → l ≡ Ok b → Leads ss blocks p address l (Continue (record { block = b; statement = 0; inside = false }))
+pub leads_to : {ss blocks : List ℕ} {p : Place} {address : Option ℕ} {l : Result ℕ Short} {b : ℕ} → l ≡ Ok b → Leads ss blocks p address l (Continue (record { block = b; statement = None }))
 leads_to {ss} {blocks} {p} {address} h = record {
   is = λ nodes limit. ap (λ (z : Result ℕ Short). tried_end (walk.left_to (walk.address_or address (statements_at nodes ss blocks p))) (end_of z)) (sym h);
   outside = refl;

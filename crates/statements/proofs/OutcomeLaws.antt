@@ -12,19 +12,17 @@ use Rattle.layout.specs.Text.{text}
 use Rattle.files.specs.Nodes.{kind_of, span_of, value_of}
 use Rattle.files.specs.Program.{Program, Node, Tree, tree, Trees, node_of}
 use Rattle.files.specs.declared.kinds.Kind.TheVariants.{Return}
-use Rattle.definition.specs.Act.{Act, done, End, gave, no_note, Why, ◌>>=◌}
+use Rattle.definition.specs.Act.{Act, done, End, gave, no_note, ◌>>=◌}
 use Rattle.definition.specs.Term.{Term, no_terms, more_terms, eval, node, kids, kid, is}
 use Rattle.definition.specs.Evaluate.{Env, did, look, looks, execute}
-use Rattle.definition.specs.Statements.{Outcome, Returned, NoReturn, Halted, returned_as, returning, is_named, is_halted, outcome, outcome_of}
+use Rattle.definition.specs.Statements.{Outcome, Returned, NoReturn, Halted, returned_as, returning, is_named, is_halted, outcome}
 use Rattle.hosting.specs.declared.Facts.{Facts}
 use Rattle.hosting.specs.declared.Short.{Short}
 use Rattle.hosting.specs.declared.Did.{Did}
-use Rattle.hosting.specs.declared.Stop.{Stop}
 use Rattle.hosting.specs.Stands.{Stands, stands, Shape, a_leave, a_give, Fine}
 use Rattle.hosting.specs.Scene.{given}
 use Rattle.hosting.specs.Routine.{returns_as}
-use Rattle.hosting.specs.Ending.{ended, short, end_of, done_of}
-use Rattle.hosting.specs.Walking.{unknown_end}
+use Rattle.hosting.specs.Ending.{ended, end_of, done_of}
 use Rattle.hosting.proofs.Shapes.{room, returned_kid}
 use Rattle.operations.specs.Going.{ReadyIn, Goes}
 use Rattle.operations.proofs.Going.{acts, told, done_goes, remains}
@@ -33,20 +31,11 @@ use Rattle.statements.specs.declared.statements.Acts.{Acts}
 use Rattle.statements.specs.declared.statements.Acts.TheVariants.{Does, Leaves, Gives as Giving, Strays, Halts as Halting}
 use Rattle.statements.specs.declared.statements.Sort.{Sort}
 use Rattle.statements.specs.declared.statements.Sort.TheVariants.{Gives, Unreachable, Halts, Plain}
-use Rattle.statements.specs.Endings.{bind_end, tried_end, acts_end, some_end, HaltIs}
+use Rattle.statements.specs.Endings.{bind_end, acts_end}
 use Rattle.statements.specs.Sorts.{sort_of, Sorted}
 use Rattle.statements.specs.Post.{Acting}
 use Rattle.statements.proofs.SortLaws.{sort_gives, first_kid}
 use Rattle.statements.proofs.Running.{then_end}
-
--- ---- results
-
-pub halt_is : {at : Option ℕ} {o o' : Result Acts Short} {r : Option Stop} → o ≡ o' → HaltIs at o' r → HaltIs at o r
-halt_is {at} {r = r} e h = subst (λ (z : Result Acts Short). HaltIs at z r) (sym e) h
-
-pub halt_unknown : (at : Option ℕ) (y : Option Why) → some_end (unknown_end at y) ≡ tried_end (λ e. (outcome_of at e).1) (short y)
-halt_unknown at None = refl
-halt_unknown at (Some y) = refl
 
 -- ---- the definition's `outcome` by what the root is
 

@@ -59,12 +59,6 @@ own_told (Fields a n) names p ne = refl
 own_told (Written a v) names p ne = refl
 own_told Unknown names p ne = refl
 
-own_takes : (note : Note) (names : List ℕ) → taken_count (own_piece note) names ≡ 0
-own_takes Nothing names = refl
-own_takes (Fields a n) names = refl
-own_takes (Written a v) names = refl
-own_takes Unknown names = refl
-
 -- ---- the names in bytes
 
 module _ (xs : List ℕ) where
@@ -153,8 +147,3 @@ pub names_fit : (xs : List ℕ) {names : List ℕ} → names ≡ names_bytes xs 
 names_fit xs {names} bytes few =
     let t : taken_count NotFollowed names ≡ length xs = ap (taken_count NotFollowed) bytes ∙ names_count xs (omega arith) in
     omega (arith, t, ap length bytes, names_length xs, length_names xs)
-
-pub names_none : (note : Note) {n : NotePiece} (w : List ℕ) → n ≡ own_piece note → workspace_size ≤ length w → 2 + 2 * taken_count n w ≤ length w
-names_none note {n} w e room =
-    let t : taken_count n w ≡ 0 = ap (λ (z : NotePiece). taken_count z w) e ∙ own_takes note w in
-    omega (arith, t)

@@ -138,7 +138,7 @@ module _ {b s r ss blocks : List ℕ} {p : Place} {t : Terminator} (ends : Ends 
   unfolding walk.terminate
   terminates_return e = led_by e tt (λ limit. done_goes (λ x. walk.stops (statements.Returned None)) (λ i x h. refl))
 
-  pub terminates_goto : {w o : List ℕ} {n : ℕ} → t ≡ Goto n → Terminates b s r ss blocks p w o (Continue (record { block = n; statement = 0; inside = false })) w o
+  pub terminates_goto : {w o : List ℕ} {n : ℕ} → t ≡ Goto n → Terminates b s r ss blocks p w o (Continue (record { block = n; statement = None })) w o
   unfolding walk.terminate
   terminates_goto {n = n} e = led_by e refl (λ limit. done_goes (λ x. walk.goes (walk.before n)) (λ i x h. refl))
 

@@ -78,7 +78,7 @@ stops_end (ended s) = ended (walk.stops s)
 stops_end (short y) = short y
 
 abbrev pub place_of : Spot → walk.Place
-place_of s = elim s.inside [ true ↦ walk.within s.block s.statement | false ↦ walk.before s.block ]
+place_of s = elim s.statement [ Some k ↦ walk.within s.block k | None ↦ walk.before s.block ]
 
 abbrev pub next_end : ℕ → ControlFlow Stop Spot → Ending walk.Next
 next_end limit (Break s) = stops_end (stop_end limit s)

@@ -93,7 +93,7 @@ pub record AddressIs (ss blocks : List ℕ) (p : Place) (address r : Option ℕ)
 -- what comes next is no statement of a block that was entered
 abbrev pub Outside : ControlFlow Stop Spot → Type 0
 Outside (Break s) = Unit
-Outside (Continue s) = s.inside ≡ false
+Outside (Continue s) = s.statement ≡ None
 
 pub record Leads (ss blocks : List ℕ) (p : Place) (address : Option ℕ) (l : Result ℕ Short) (q : ControlFlow Stop Spot) : Type 0 where
   pub is : (nodes : List ℕ) (limit : ℕ) → next_end limit q ≡ tried_end (walk.left_to (walk.address_or address (statements_at nodes ss blocks p))) (end_of l)

@@ -88,10 +88,10 @@ fn returned(returns: Option<Ty>, v: Val) -> Val
 }
 
 // `return;` or `return value;`.
-fn give(reads: Reads, ws: &mut [u8], out: &mut [u8], facts: Facts, n: usize) -> Result<Acts, Short>
-    requires ready_in { ReadyIn (given reads.nodes.now reads.symbols.now reads.regions.now) ws.old }
-    requires fine { (Fine reads.nodes.now n) × (kind_of reads.nodes.now n ≡ 16) }
-    ensures { Acting reads.entry.nodes.now reads.entry.symbols.now reads.entry.regions.now facts n ws.old out.old result ws.new out.new }
+fn give(reads: &Reads, ws: &mut [u8], out: &mut [u8], facts: Facts, n: usize) -> Result<Acts, Short>
+    requires ready_in { ReadyIn (given reads.now.nodes.now reads.now.symbols.now reads.now.regions.now) ws.old }
+    requires fine { (Fine reads.now.nodes.now n) × (kind_of reads.now.nodes.now n ≡ 16) }
+    ensures { Acting reads.now.nodes.now reads.now.symbols.now reads.now.regions.now facts n ws.old out.old result ws.new out.new }
 {
     if nodes::span(reads.nodes, n) == 1 {
         return Ok(Acts::Leaves);
@@ -101,10 +101,10 @@ fn give(reads: Reads, ws: &mut [u8], out: &mut [u8], facts: Facts, n: usize) -> 
 }
 
 // What the root of a statement does.
-fn act(reads: Reads, ws: &mut [u8], out: &mut [u8], facts: Facts, n: usize) -> Result<Acts, Short>
-    requires ready_in { ReadyIn (given reads.nodes.now reads.symbols.now reads.regions.now) ws.old }
-    requires fine { Fine reads.nodes.now n }
-    ensures { Acting reads.entry.nodes.now reads.entry.symbols.now reads.entry.regions.now facts n ws.old out.old result ws.new out.new }
+fn act(reads: &Reads, ws: &mut [u8], out: &mut [u8], facts: Facts, n: usize) -> Result<Acts, Short>
+    requires ready_in { ReadyIn (given reads.now.nodes.now reads.now.symbols.now reads.now.regions.now) ws.old }
+    requires fine { Fine reads.now.nodes.now n }
+    ensures { Acting reads.now.nodes.now reads.now.symbols.now reads.now.regions.now facts n ws.old out.old result ws.new out.new }
 {
     match sort_of(reads.nodes, facts, n) {
         Sort::Gives => give(reads, ws, out, facts, n),
@@ -183,21 +183,21 @@ fn conclude(ws: &mut [u8], out: &mut [u8], site: Site, o: Result<Acts, Short>) -
 
 // Statement k, of a block.
 pub fn statement(
-    bodies: Bodies,
+    bodies: &Bodies,
     ws: &mut [u8],
     out: &mut [u8],
     facts: Facts,
     block: usize,
     k: usize,
 ) -> Option<Stop>
-    requires ready_in { ReadyIn (given bodies.reads.nodes.now bodies.reads.symbols.now bodies.reads.regions.now) ws.old }
-    requires has_statement { (k * 13 + 13 ≤ length bodies.statements.now) × RootsOf bodies.reads.nodes.now bodies.statements.now }
-    ensures { RunsStatement bodies.entry.reads.nodes.now bodies.entry.reads.symbols.now bodies.entry.reads.regions.now bodies.entry.statements.now facts block k ws.old out.old result ws.new out.new }
+    requires ready_in { ReadyIn (given bodies.now.reads.nodes.now bodies.now.reads.symbols.now bodies.now.reads.regions.now) ws.old }
+    requires has_statement { (k * 13 + 13 ≤ length bodies.now.statements.now) × RootsOf bodies.now.reads.nodes.now bodies.now.statements.now }
+    ensures { RunsStatement bodies.now.reads.nodes.now bodies.now.reads.symbols.now bodies.now.reads.regions.now bodies.now.statements.now facts block k ws.old out.old result ws.new out.new }
 {
     workspace::note::clear_note(ws);
     let s = index::blocks::statement_at(bodies.statements, k);
     let address = s.address;
-    let o = act(bodies.reads, ws, out, facts, s.root);
+    let o = act(&bodies.reads, ws, out, facts, s.root);
     let site = Site {
         address,
         block,

@@ -60,6 +60,6 @@ pub fn send(ws: &[u8], out: &mut [u8], site: Site, did: Did, at: u64) -> u64
             }
             stream::plain_step(out, at, on, s)
         }
-        note => stream::step(out, at, on, s, own_note(note), ws),
+        note => stream::noted_step(out, at, on, s, own_note(note)),
     }
 }

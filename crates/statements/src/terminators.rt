@@ -15,12 +15,12 @@ use std::ops::ControlFlow;
 use stream::Reason;
 use value::Val;
 
-// Where the walk is: about to enter a block, or before a statement of it. (The bool stands first, so that no number of it shares a word with a tag of `ControlFlow`.)
+// Where the walk is: before a statement of a block, or, with none, about to enter it. (The option stands first, so that its tag, and no number, shares a word with
+// a tag of `ControlFlow`.)
 #[derive(Clone, Copy)]
 pub struct Spot {
-    pub inside: bool,
+    pub statement: Option<usize>,
     pub block: usize,
-    pub statement: usize,
 }
 
 // A Branch: a block for a value other than 0, else the next.
@@ -33,7 +33,7 @@ fn branch_to(root: usize, taken: usize, next: usize, v: Val) -> Result<usize, Sh
     if v.number == 0 { Ok(next) } else { Ok(taken) }
 }
 
-// A Switch: the first case of the value, extended by its sign bit whatever its sign is.
+// A Switch: the first case of the value, extended by its sign bit whatever its sign is. (The count is of the block's cases, behind which the next block stands.)
 fn switch_to(blocks: &[u8], start: usize, count: usize, root: usize, v: Val) -> Result<usize, Short>
     requires { start + 24 + count * 12 ≤ length blocks.now }
     ensures { end_of result ≡ end_end (switches root (listed (case_at blocks.now (start + 24)) 0 count) v) }
@@ -67,9 +67,9 @@ fn chosen(
 }
 
 // The last statement's address.
-fn last_address(bodies: Bodies, place: Place) -> Option<u64>
-    requires { Dealt bodies.statements.now bodies.blocks.now place }
-    ensures { LastIs bodies.entry.statements.now bodies.entry.blocks.now place result }
+fn last_address(bodies: &Bodies, place: Place) -> Option<u64>
+    requires { Dealt bodies.now.statements.now bodies.now.blocks.now place }
+    ensures { LastIs bodies.now.statements.now bodies.now.blocks.now place result }
 {
     let count = index::blocks::statement_count(bodies.blocks, place.start);
     if count == 0 {
@@ -80,9 +80,9 @@ fn last_address(bodies: Bodies, place: Place) -> Option<u64>
 }
 
 // A terminator without an address takes the last statement's.
-fn address_or(bodies: Bodies, place: Place, address: Option<u64>) -> Option<u64>
-    requires { Dealt bodies.statements.now bodies.blocks.now place }
-    ensures { AddressIs bodies.entry.statements.now bodies.entry.blocks.now place address result }
+fn address_or(bodies: &Bodies, place: Place, address: Option<u64>) -> Option<u64>
+    requires { Dealt bodies.now.statements.now bodies.now.blocks.now place }
+    ensures { AddressIs bodies.now.statements.now bodies.now.blocks.now place address result }
 {
     match address {
         Some(a) => Some(a),
@@ -92,19 +92,18 @@ fn address_or(bodies: Bodies, place: Place, address: Option<u64>) -> Option<u64>
 
 // A block comes next, or the run stops.
 fn lead_on(
-    bodies: Bodies,
+    bodies: &Bodies,
     place: Place,
     address: Option<u64>,
     lead: Result<usize, Short>,
 ) -> ControlFlow<Stop, Spot>
-    requires { Dealt bodies.statements.now bodies.blocks.now place }
-    ensures { Leads bodies.entry.statements.now bodies.entry.blocks.now place address lead result }
+    requires { Dealt bodies.now.statements.now bodies.now.blocks.now place }
+    ensures { Leads bodies.now.statements.now bodies.now.blocks.now place address lead result }
 {
     match lead {
         Ok(block) => ControlFlow::Continue(Spot {
             block,
-            statement: 0,
-            inside: false,
+            statement: None,
         }),
         Err(s) => { ControlFlow::Break(Stop::Unknown(address_or(bodies, place, address), s)) }
     }
@@ -112,22 +111,21 @@ fn lead_on(
 
 // The terminator of the block at a place.
 pub fn terminate(
-    bodies: Bodies,
+    bodies: &Bodies,
     ws: &mut [u8],
     out: &mut [u8],
     place: Place,
 ) -> ControlFlow<Stop, Spot>
-    requires ready_in { ReadyIn (given bodies.reads.nodes.now bodies.reads.symbols.now bodies.reads.regions.now) ws.old }
-    requires placing { Placing bodies.reads.nodes.now bodies.statements.now bodies.blocks.now place }
-    ensures { Terminates bodies.entry.reads.nodes.now bodies.entry.reads.symbols.now bodies.entry.reads.regions.now bodies.entry.statements.now bodies.entry.blocks.now place ws.old out.old result ws.new out.new }
+    requires ready_in { ReadyIn (given bodies.now.reads.nodes.now bodies.now.reads.symbols.now bodies.now.reads.regions.now) ws.old }
+    requires placing { Placing bodies.now.reads.nodes.now bodies.now.statements.now bodies.now.blocks.now place }
+    ensures { Terminates bodies.now.reads.nodes.now bodies.now.reads.symbols.now bodies.now.reads.regions.now bodies.now.statements.now bodies.now.blocks.now place ws.old out.old result ws.new out.new }
 {
     let t = index::blocks::terminator_at(bodies.blocks, place.start);
     match t {
         Terminator::Return => ControlFlow::Break(Stop::ReturnedNothing),
         Terminator::Goto(block) => ControlFlow::Continue(Spot {
             block,
-            statement: 0,
-            inside: false,
+            statement: None,
         }),
         Terminator::Branch {
             address,
@@ -135,7 +133,7 @@ pub fn terminate(
             taken: yes,
             next,
         } => {
-            let e = machine::eval(bodies.reads, ws, out, root);
+            let e = machine::eval(&bodies.reads, ws, out, root);
             lead_on(bodies, place, address, taken(root, yes, next, e))
         }
         Terminator::Switch {
@@ -143,7 +141,7 @@ pub fn terminate(
             root,
             count,
         } => {
-            let e = machine::eval(bodies.reads, ws, out, root);
+            let e = machine::eval(&bodies.reads, ws, out, root);
             let l = chosen(bodies.blocks, place.start, count, root, e);
             lead_on(bodies, place, address, l)
         }

@@ -167,21 +167,30 @@ module _ (p : StepPiece) (n : NotePiece) (names : List ℕ) where
   length_step count e =
       ap length (sym (step_bytes_lem (taken_names n names) (told_is n names))) ∙ length_whole (taken_names n names) ∙ ap (λ (k : ℕ). 63 + 2 * k) (length_taken n names ∙ sym e)
 
--- without a note
-module _ (p : StepPiece) where
-  plain_bytes : fixed p (note_bytes 0 0 0 no_val) ++ le 2 0 ≡ step_bytes (step_from p Nothing [])
-  unfolding place_bytes wrote_bytes note_bytes step_bytes note_from step_from taken_names
-  plain_bytes = refl
+-- no names taken
+none_counted : (n : NotePiece) → 0 ≡ taken_count n []
+unfolding number_at
+none_counted Nothing = refl
+none_counted (Fields address count) = refl
+none_counted (Written address v) = refl
+none_counted Unknown = refl
+none_counted NotFollowed = refl
 
-  pub plain_stored : (s t u w x : List ℕ) (at : ℕ) (v : Val) → v ≡ no_val
+none_taken : (n : NotePiece) → taken_names n [] ≡ []
+unfolding taken_names
+none_taken n = ap (λ (k : ℕ). (reads (number 2) k []).0) (sym (none_counted n))
+
+module _ (p : StepPiece) (n : NotePiece) where
+  pub noted_stored : (s t u w x : List ℕ) (at : ℕ)
       → t ≡ sets s at (place_bytes p.address p.block p.statement)
       → u ≡ sets t (at + 17) (wrote_bytes (wrote_fields p.wrote))
-      → w ≡ sets u (at + 34) (note_bytes 0 0 0 v)
+      → w ≡ sets u (at + 34) (head_bytes n 0)
       → x ≡ put_number w (at + 61) 2 0
-      → x ≡ sets s at (step_bytes (step_from p Nothing []))
+      → x ≡ sets s at (step_bytes (step_from p n []))
   unfolding put_number
-  plain_stored s t u w x at v e a b c d =
-      fixed_stored p (note_bytes 0 0 0 no_val) (le 2 0) s t u w x at (length_head (0, (0, (0, (no_val, []))))) a b (c ∙ ap (λ (z : Val). sets u (at + 34) (note_bytes 0 0 0 z)) e) d ∙ ap (sets s at) plain_bytes
+  noted_stored s t u w x at a b c d =
+      fixed_stored p (head (note_from n [])) (le 2 0) s t u w x at (length_head (note_from n [])) a b (c ∙ ap (sets u (at + 34)) (head_is n [] 0 (none_counted n))) d
+      ∙ ap (sets s at) (step_bytes_lem p n [] [] (told_is n [] ∙ none_taken n))
 
-  pub length_plain : length (step_bytes (step_from p Nothing [])) ≡ 63
-  length_plain = length_step p Nothing [] 0 refl
+  pub length_noted : length (step_bytes (step_from p n [])) ≡ 63
+  length_noted = length_step p n [] 0 (none_counted n)

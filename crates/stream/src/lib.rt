@@ -1,4 +1,5 @@
-// Writers of the pieces of a record, each given a part of the record buffer.
+// Writers of the pieces of a record, each given a part of the record buffer, the cursor and whether the stream is on: registers of the workspace, which a caller
+// reads for each piece, so that a struct of the three would be made for one call. (Counts are written too: of taken names, of a call's values.)
 #![tactic(auto)]
 
 ghost use Rattle.std.specs.Prelude.{◌≡◌, [], ◌∷◌, ◌&&◌, ◌+◌, ◌*◌, ◌≤◌, ◌<◌, length, take, leb};
@@ -21,6 +22,7 @@ use value::encoding::put_val;
 const MOST: u64 = 18446744073709551615;
 
 // The cursor after a piece of n bytes.
+#[tactic(auto, unfolding(crate::specs::Stream::advanced))]
 fn advance(at: u64, n: u64) -> u64
     ensures { result ≡ advanced at n }
 {
@@ -28,6 +30,7 @@ fn advance(at: u64, n: u64) -> u64
 }
 
 // Whether a piece of n bytes goes into a stream: it is on, and the piece fits behind the cursor.
+#[tactic(auto, using(crate::proofs::StreamLaws::no_room, crate::proofs::StreamLaws::room))]
 fn has_room(out: &[u8], at: u64, on: bool, n: u64) -> bool
     ensures { result ≡ (on && leb (at + n) (length out.now)) }
 {
@@ -39,6 +42,7 @@ fn has_room(out: &[u8], at: u64, on: bool, n: u64) -> bool
 }
 
 // A piece of n bytes goes into a stream, where it has room: where the cursor stands then.
+#[inline(always)]
 fn send<F: FnOnce(&mut [u8])>(out: &mut [u8], at: u64, on: bool, n: u64, put: F) -> u64
     requires { at + n ≤ length out.old → FnOnceTakesAtMut F.FnOnce put out.old }
     ensures { (result ≡ advanced at n) × When (on && leb (at + n) (length out.old)) (FnOnceReturnsAtMut F.FnOnce put out.old tt out.new) (out.new ≡ out.old) }
@@ -65,6 +69,7 @@ pub fn no_value() -> Val
 }
 
 // A number that may be none: a flag, and the number or 0.
+#[tactic(auto, using(crate::proofs::StoreLaws::flagged_stored))]
 fn put_flagged(part: &mut [u8], at: usize, number: Option<u64>)
     requires { at + 9 ≤ length part.old }
     ensures { part.new ≡ sets part.old at (flagged_bytes number) }
@@ -74,6 +79,7 @@ fn put_flagged(part: &mut [u8], at: usize, number: Option<u64>)
 }
 
 // The lowest bytes of a number, so many, with one store where they are as many as a store takes.
+#[tactic(auto, using(crate::proofs::StoreLaws::low_stored))]
 fn put_low(part: &mut [u8], at: usize, count: usize, number: u64)
     requires { (at + count ≤ length part.old) × (count ≤ 8) }
     ensures { part.new ≡ sets part.old at (le count number) }
@@ -116,6 +122,7 @@ impl From<Symbol> for u64 {
     }
 }
 
+#[tactic(auto, using(crate::proofs::QuestionLaws::symbol_stored))]
 fn put_symbol(part: &mut [u8], at: usize, kind: Symbol, name: usize, answer: Option<u64>)
     requires { at + 12 ≤ length part.old }
     ensures { part.new ≡ sets part.old at (question_bytes (symbol_entry kind name answer)) }
@@ -146,6 +153,7 @@ pub fn question_symbol(
 }
 
 // A `read` up to its answer.
+#[tactic(auto, using(crate::proofs::QuestionLaws::span_stored))]
 fn put_span(part: &mut [u8], at: usize, address: u64, size: u64)
     requires { at + 10 ≤ length part.old }
     ensures { part.new ≡ sets part.old at (span_bytes address size) }
@@ -155,6 +163,7 @@ fn put_span(part: &mut [u8], at: usize, address: u64, size: u64)
     put::<1>(part, at + 9, size);
 }
 
+#[tactic(auto, using(crate::proofs::QuestionLaws::read_stored))]
 fn put_read(part: &mut [u8], at: usize, address: u64, size: u64, count: u64, number: u64)
     requires { (at + (11 + count) ≤ length part.old) × (count ≤ 8) }
     ensures { part.new ≡ sets part.old at (question_bytes (read_entry address size count number)) }
@@ -187,6 +196,7 @@ pub fn question_read(
 }
 
 // A `call` up to its values.
+#[tactic(auto, using(crate::proofs::QuestionLaws::callee_stored))]
 fn put_callee(part: &mut [u8], at: usize, name: usize, address: u64, depth: u64)
     requires { at + 15 ≤ length part.old }
     ensures { part.new ≡ sets part.old at (callee_bytes name address depth) }
@@ -197,6 +207,7 @@ fn put_callee(part: &mut [u8], at: usize, name: usize, address: u64, depth: u64)
     put::<4>(part, at + 11, depth);
 }
 
+#[tactic(auto, using(crate::proofs::QuestionLaws::call_stored))]
 fn put_call(
     part: &mut [u8],
     at: usize,
@@ -261,6 +272,7 @@ pub struct StepPiece {
 }
 
 // Where a step was.
+#[tactic(auto, using(crate::proofs::StepLaws::place_stored))]
 fn put_place(part: &mut [u8], at: usize, s: StepPiece)
     requires { at + 17 ≤ length part.old }
     ensures { part.new ≡ sets part.old at (place_bytes s.address s.block s.statement) }
@@ -282,6 +294,7 @@ fn put_wrote(part: &mut [u8], at: usize, wrote: Option<(usize, Val)>)
 }
 
 // A note's fields up to the taken names, the first its number.
+#[tactic(auto, using(crate::proofs::StepLaws::note_stored))]
 fn put_fields(part: &mut [u8], at: usize, kind: u64, address: u64, count: u64, value: Val)
     requires { at + 27 ≤ length part.old }
     ensures { part.new ≡ sets part.old at (note_bytes kind address count value) }
@@ -310,6 +323,7 @@ fn put_note(part: &mut [u8], at: usize, note: NotePiece, count: usize)
 }
 
 // The first of the names that stand in bytes behind their count.
+#[tactic(auto, using(crate::proofs::StepLaws::names_stored))]
 fn put_names(part: &mut [u8], at: usize, names: &[u8], count: usize)
     requires { (at + (2 + 2 * count) ≤ length part.old) × (2 + 2 * count ≤ length names.now) }
     ensures { part.new ≡ sets part.old at (names_bytes count names.now) }
@@ -318,6 +332,7 @@ fn put_names(part: &mut [u8], at: usize, names: &[u8], count: usize)
     put_bytes(part, at + 2, &names[2..], 2 * count);
 }
 
+#[tactic(auto, using(crate::proofs::StepLaws::step_stored))]
 fn put_step(part: &mut [u8], at: usize, s: StepPiece, note: NotePiece, names: &[u8], count: usize)
     requires { (at + (63 + 2 * count) ≤ length part.old) × ((2 + 2 * count ≤ length names.now) × (count ≡ taken_count note names.now)) }
     ensures { part.new ≡ sets part.old at (step_bytes (step_from s note names.now)) }
@@ -328,14 +343,16 @@ fn put_step(part: &mut [u8], at: usize, s: StepPiece, note: NotePiece, names: &[
     put_names(part, at + 61, names, count);
 }
 
-// The same without a note. Most steps have none, and zeros that are known beforehand cost less.
-fn put_plain(part: &mut [u8], at: usize, s: StepPiece)
+// The same of a step that took no names. (Inlined, so that a note that is known is not matched.)
+#[tactic(auto, using(crate::proofs::StepLaws::noted_stored))]
+#[inline(always)]
+fn put_noted(part: &mut [u8], at: usize, s: StepPiece, note: NotePiece)
     requires { at + 63 ≤ length part.old }
-    ensures { part.new ≡ sets part.old at (step_bytes (step_from s Nothing [])) }
+    ensures { part.new ≡ sets part.old at (step_bytes (step_from s note [])) }
 {
     put_place(part, at, s);
     put_wrote(part, at + 17, s.wrote);
-    put_fields(part, at + 34, 0, 0, 0, no_value());
+    put_note(part, at + 34, note, 0);
     put::<2>(part, at + 61, 0);
 }
 
@@ -366,11 +383,30 @@ pub fn step(out: &mut [u8], at: u64, on: bool, s: StepPiece, note: NotePiece, na
     )
 }
 
-// A step without a note.
+// A step that took no names.
+pub fn noted_step(out: &mut [u8], at: u64, on: bool, s: StepPiece, note: NotePiece) -> u64
+    ensures { Sent on out.old at (step_bytes (step_from s note [])) out.new result }
+{
+    send(
+        out,
+        at,
+        on,
+        63,
+        |part| put_noted(part, at as usize, s, note),
+    )
+}
+
+// A step without a note. Most steps have none, and zeros that are known beforehand cost less: a call of `noted_step` would not let them be known.
 pub fn plain_step(out: &mut [u8], at: u64, on: bool, s: StepPiece) -> u64
     ensures { Sent on out.old at (step_bytes (step_from s Nothing [])) out.new result }
 {
-    send(out, at, on, 63, |part| put_plain(part, at as usize, s))
+    send(
+        out,
+        at,
+        on,
+        63,
+        |part| put_noted(part, at as usize, s, NotePiece::Nothing),
+    )
 }
 
 // ---- the bodies that are written at once, each at the front of its part
@@ -482,6 +518,7 @@ fn number_of(reason: Option<Reason>) -> u64
 }
 
 // A stop up to its address.
+#[tactic(auto, using(crate::proofs::BodyLaws::cause_stored))]
 fn put_cause(part: &mut [u8], s: StopPiece)
     requires { 11 ≤ length part.old }
     ensures { part.new ≡ sets part.old 0 (cause_bytes (kind_number s.kind) (reason_field s.reason) s.address) }
@@ -492,6 +529,7 @@ fn put_cause(part: &mut [u8], s: StopPiece)
 }
 
 // The rest of it.
+#[tactic(auto, using(crate::proofs::BodyLaws::named_stored))]
 fn put_named(part: &mut [u8], s: StopPiece)
     requires { stop_size ≤ length part.old }
     ensures { part.new ≡ sets part.old 11 (named_bytes s.number s.node s.name s.value) }
@@ -503,6 +541,7 @@ fn put_named(part: &mut [u8], s: StopPiece)
 }
 
 // Stop.
+#[tactic(auto, using(crate::proofs::BodyLaws::stop_stored))]
 pub fn stop(part: &mut [u8], s: StopPiece)
     requires { stop_size ≤ length part.old }
     ensures { part.new ≡ sets part.old 0 (stop_bytes (stop_from s)) }
@@ -512,6 +551,7 @@ pub fn stop(part: &mut [u8], s: StopPiece)
 }
 
 // Counts: blocks entered, steps recorded, and units spent.
+#[tactic(auto, using(crate::proofs::BodyLaws::counts_stored))]
 pub fn counts(part: &mut [u8], entered: u64, recorded: u64)
     requires { (12 ≤ length part.old) × (entered + recorded < 4294967296) }
     ensures { part.new ≡ sets part.old 0 (counts_body entered recorded) }
@@ -531,6 +571,7 @@ pub struct Lengths {
 }
 
 // A pair. The next body starts where this one ends.
+#[tactic(auto, using(crate::proofs::BodyLaws::pair_stored))]
 fn put_pair(part: &mut [u8], at: usize, offset: u64, n: u64) -> u64
     requires { (at + 8 ≤ length part.old) × (offset + n < 4294967296) }
     ensures { (part.new ≡ sets part.old at (pairs_of offset (n ∷ []))) × (result ≡ offset + n) }
@@ -541,6 +582,7 @@ fn put_pair(part: &mut [u8], at: usize, offset: u64, n: u64) -> u64
 }
 
 // Three pairs.
+#[tactic(auto, using(crate::proofs::BodyLaws::three_stored))]
 fn put_three(part: &mut [u8], at: usize, offset: u64, a: u64, b: u64, c: u64) -> u64
     requires { (at + 24 ≤ length part.old) × (offset + a + b + c < 4294967296) }
     ensures { (part.new ≡ sets part.old at (pairs_of offset (a ∷ b ∷ c ∷ []))) × (result ≡ offset + a + b + c) }
@@ -551,6 +593,7 @@ fn put_three(part: &mut [u8], at: usize, offset: u64, a: u64, b: u64, c: u64) ->
 }
 
 // The six pairs.
+#[tactic(auto, using(crate::proofs::BodyLaws::pairs_stored))]
 pub fn pairs(part: &mut [u8], l: Lengths)
     requires { (stop_place ≤ length part.old) × (last_end l < 4294967296) }
     ensures { part.new ≡ sets part.old 0 (pairs_of stop_place (lengths_of l)) }

@@ -2,8 +2,8 @@
 use mathlib.Core.Path.{◌≡◌, refl, sym, ap, ap₂, ◌∙◌}
 use mathlib.Core.Bool.{Bool, true, false}
 use mathlib.Core.List.{List, [], ◌∷◌, ◌++◌, append_assoc, append-nil}
-use Prim.Native.Nat.{ℕ, zero, suc, ◌+◌, ◌-◌, ◌/◌, ◌%◌, ◌^◌, ◌≤◌, ◌<◌}
-use native.Mathlib.Nat.{pow-suc, div-lt_iff_lt-mul, mul-le-mul_left, lt_of_lt_of_le, div-lt_self, mod-eq_of_lt, div-eq_of_lt, zero-div, zero-mod, add-zero, zero-add}
+use Prim.Native.Nat.{ℕ, zero, suc, ◌+◌, ◌-◌, ◌*◌, ◌/◌, ◌%◌, ◌^◌, ◌≤◌, ◌<◌}
+use native.Mathlib.Nat.{pow-zero, pow-suc, mul-one, mul_assoc, div-lt_iff_lt-mul, le-div_iff_mul-le, one-le-pow, mul-le-mul_left, lt_of_lt_of_le, mod-eq_of_lt, div-eq_of_lt, zero-div, zero-mod, add-zero, zero-add}
 use native.Mathlib.Omega.{arith}
 use borrow.Author.Tests.{le-ltb, lt-ltb, ltb-true, ltb-false}
 use lib.Dec.{ltb}
@@ -30,44 +30,21 @@ digits_last k base n h =
 
 -- ---- counted
 
-pub record Counting (base number count rest : ℕ) : Type 0 where
-  pub some : 1 ≤ count
-  pub most : count ≤ 64
-  pub small : rest < 2 ^ (65 - count)
-  pub sum : count + length (digits (65 - count) base rest) ≡ 1 + length (digits 64 base number)
-
-pub counting : (base number : ℕ) → number < 2 ^ 64 → Counting base number 1 number
-counting base number h = record { some = omega arith; most = omega arith; small = h; sum = refl }
-
 smaller : (k base n : ℕ) → 2 ≤ base → base ≤ n → n < 2 ^ suc k → n / base < 2 ^ k
 smaller k base n b h l =
     (div-lt_iff_lt-mul {k = base} {x = n} {y = 2 ^ k} (omega arith)).1 (lt_of_lt_of_le (rw pow-suc at l) (mul-le-mul_left (2 ^ k) b))
 
-again : (k base n : ℕ) → 2 ≤ base → base ≤ n → n < 2 ^ suc k → 1 ≤ k
-again zero base n b h l = absurd (omega arith)
-again (suc k) base n b h l = omega arith
-
-module _ {base number count rest : ℕ} (so : Counting base number count rest) where
-  left : 65 - count ≡ suc (64 - count)
-  left = omega (arith, so.most)
-
-  pub counting_more : 2 ≤ base → base ≤ rest → Counting base number (count + 1) (rest / base)
-  counting_more b h =
-      let k = 64 - count in
-      let l : rest < 2 ^ suc k = rw left at so.small in
-      let e : 65 - (count + 1) ≡ k = omega arith in
-      let d = ap length (digits_more k base rest h) ∙ length-append (digits k base (rest / base)) (digit (rest % base) ∷ []) in
-      record {
-        some = omega arith;
-        most = omega (arith, again k base rest b h l, so.most);
-        small = rw e (smaller k base rest b h l);
-        sum = rw e (omega (arith, d, rw left at so.sum));
-      }
-
-  pub counting_done : rest < base → (count ≡ length (digits 64 base number)) × ((1 ≤ count) × (count ≤ 64))
-  counting_done h =
-      let d = ap length (digits_last (64 - count) base rest h) in
-      (omega (arith, d, rw left at so.sum), (so.some, so.most))
+pub digits_count : (f base n k : ℕ) → 2 ≤ base → base ^ k ≤ n → n < base * base ^ k → k < f → length (digits f base n) ≡ suc k
+digits_count zero base n k b p q h = absurd (omega arith)
+digits_count (suc f) base n zero b p q h = ap length (digits_last f base n (rw (pow-zero, mul-one) at q))
+digits_count (suc f) base n (suc k) b p q h =
+    let some : 0 < base = omega arith in
+    let low : base ^ k ≤ n / base = (le-div_iff_mul-le some).1 (rw pow-suc at p) in
+    let high : n / base < base * base ^ k = (div-lt_iff_lt-mul some).1 (rw (mul_assoc base (base ^ k) base) (rw pow-suc at q)) in
+    let one : 1 * base ≤ n = (le-div_iff_mul-le some).0 (omega (arith, low, one-le-pow k base some)) in
+    ap length (digits_more f base n (omega (arith, one)))
+    ∙ length-append (digits f base (n / base)) (digit (n % base) ∷ [])
+    ∙ omega (arith, digits_count f base (n / base) k b low high (omega arith))
 
 -- ---- written from the right
 
@@ -187,11 +164,6 @@ module _ (base : ℕ) (b : 2 ≤ base) where
       go : (t : Bool) → ltb n base ≡ t → (base ≤ n → Are k (n / base)) → Are (suc k) n
       go true e so = one k n (ltb-true n base e)
       go false e so = let h = ltb-false n base e in more k n h (so h)
-
--- ---- the rest falls
-
-pub rest_less : (n base : ℕ) → 2 ≤ base → base ≤ n → n / base < n
-rest_less n base b h = div-lt_self (omega arith) (omega arith)
 
 -- ---- a number whose digits were counted
 

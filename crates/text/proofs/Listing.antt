@@ -4,7 +4,7 @@ use mathlib.Core.List.{List, [], ◌∷◌, ◌++◌, append_assoc}
 use Prim.Native.Nat.{ℕ, zero, suc, ◌+◌, ◌*◌, ◌^◌, ◌≤◌, ◌<◌}
 use native.Mathlib.Omega.{arith}
 use lib.ListN.{length, drop, length-drop}
-use lib.Seq.{drop_at, drop-drop}
+use lib.Seq.{drop_at}
 use Rattle.layout.specs.Each.{Each}
 use Rattle.layout.specs.Text.{text}
 use Rattle.layout.specs.Number.{number_at}
@@ -74,13 +74,6 @@ steps_next {n} {s} l h = go l.steps l.fits l.is
     go [] f e = absurd (omega (arith, ap length (no_steps e)))
     go (x ∷ es) f e = next_there n l.few x es f s e
 
--- the same in a body, from a place on: the place of the one after it
-pub steps_from : {n : ℕ} (b : List ℕ) (at : ℕ) → StepsLeft n (drop at b) → at < length b
-    → StepThere n (drop at b) × ((at + step_size (drop at b) ≤ length b) × StepsLeft n (drop (at + step_size (drop at b)) b))
-steps_from {n} b at l h =
-    let x = steps_next l (rw length-drop (omega arith)) in
-    (x.0, (omega (arith, step_size_is (drop at b), x.0.inside, length-drop at b), subst (λ (s : List ℕ). StepsLeft n s) (drop-drop (step_size (drop at b)) at b) x.1))
-
 module _ (names : List (List ℕ)) where
   lines_none : (f : ℕ) (s : List ℕ) → s ≡ [] → step_lines names f s ≡ []
   unfolding step_lines
@@ -136,12 +129,6 @@ variables_next {n} {s} l h = go l.variables l.fits l.is
     go : (ps : Overlay Val) → Each (VariableFits n) ps → s ≡ variables_body ps → VariableThere n s × VariablesLeft n (drop 16 s)
     go [] f e = absurd (omega (arith, ap length (no_variables e)))
     go (p ∷ ps) f e = variable_next n l.few p ps f s e
-
-pub variables_from : {n : ℕ} (b : List ℕ) (at : ℕ) → VariablesLeft n (drop at b) → at < length b
-    → VariableThere n (drop at b) × ((at + 16 ≤ length b) × VariablesLeft n (drop (at + 16) b))
-variables_from {n} b at l h =
-    let x = variables_next l (rw length-drop (omega arith)) in
-    (x.0, (omega (arith, x.0.inside, length-drop at b), subst (λ (s : List ℕ). VariablesLeft n s) (drop-drop 16 at b) x.1))
 
 module _ (names : List (List ℕ)) where
   variables_none : (f : ℕ) (s : List ℕ) → s ≡ [] → variable_lines names f s ≡ []

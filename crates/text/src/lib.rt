@@ -27,6 +27,7 @@ use value::Val;
 // The bytes of a buffer in which every line fits. A longer one may be lent, so that each line asks for the length and no type has it.
 pub const LINE: usize = 8192;
 
+// Pieces in a row, other ones in each line: a function for two of them would take each piece as a parameter, and say no less.
 impl<'a> Line<'a> {
     ghost use Rattle.text.specs.Told.{stop_told, StopNamed};
     ghost use Rattle.text.specs.Pushed.{Room, Pushed};
@@ -78,7 +79,8 @@ impl<'a> Line<'a> {
     }
 }
 
-// The line of a refusal: how many bytes it has.
+// The line of a refusal: how many bytes it has. This and the others below make a line, write it and say its length: a function that takes what to
+// write as a closure would say in four clauses what these three lines do.
 pub fn refusal_line(number: u64, out: &mut [u8]) -> usize
     requires { 8192 ≤ length out.old }
     ensures { (Put out.old 0 (text "; refused " ++ (decimal number ++ text "\n")) out.new result) × (result ≤ 8192) }

@@ -31,18 +31,16 @@ impl Base {
         digit_of(number % self.of)
     }
 
-    // How many digits a number has: as often as it can be divided.
+    // How many digits a number has: 0 has one too.
     pub fn count(self, number: u64) -> usize
         ensures is { result ≡ length (digits 64 self.of number) }
         ensures some { 1 ≤ result }
         ensures most { result ≤ 64 }
     {
-        let mut count = 1;
-        let mut rest = number;
-        while self.of <= rest {
-            rest /= self.of;
-            count += 1;
+        if number == 0 {
+            1
+        } else {
+            number.ilog(self.of) as usize + 1
         }
-        count
     }
 }

@@ -4,7 +4,7 @@ ghost use Rattle.layout.specs.Text.{text};
 ghost use Rattle.layout.specs.Number.{number_at};
 ghost use Rattle.files.specs.Program.{texts_in};
 ghost use Rattle.index.specs.Texts.{text_count};
-ghost use Rattle.definition.specs.Act.{fields_written, value_written, not_followed};
+ghost use Rattle.definition.specs.Act.{not_followed};
 ghost use Rattle.definition.specs.Listing.{address_text, wrote_text, note_text, step_text};
 ghost use Rattle.text.specs.Read.{names_in, step_in};
 ghost use Rattle.text.specs.Told.{note_told};
@@ -81,28 +81,6 @@ impl<'a> Line<'a> {
         self.text(b" after it");
     }
 
-    // How many fields were stored, and where.
-    fn fields(&mut self, address: u64, count: u64)
-        requires { Room self.old (note_text [] (fields_written address count)) }
-        ensures { Pushed self.old self.new (note_text [] (fields_written address count)) }
-    {
-        self.text(b"  ; wrote ");
-        self.decimal(count);
-        self.text(b" fields at ");
-        self.hexadecimal(address);
-    }
-
-    // The value that was stored, and where.
-    fn stored(&mut self, address: u64, v: Val)
-        requires { Room self.old (note_text [] (value_written address v)) }
-        ensures { Pushed self.old self.new (note_text [] (value_written address v)) }
-    {
-        self.text(b"  ; wrote ");
-        self.value(v);
-        self.text(b" at ");
-        self.hexadecimal(address);
-    }
-
     // The note of a step.
     pub fn note(&mut self, step: StepBytes, note: Note)
         requires { Room self.old (note_text (texts_in step.names.body.now) (note_told step.bytes.now note)) }
@@ -110,8 +88,18 @@ impl<'a> Line<'a> {
     {
         match note {
             Note::Nothing => (),
-            Note::Fields(address, count) => self.fields(address, count),
-            Note::Written(address, v) => self.stored(address, v),
+            Note::Fields(address, count) => {
+                self.text(b"  ; wrote ");
+                self.decimal(count);
+                self.text(b" fields at ");
+                self.hexadecimal(address);
+            }
+            Note::Written(address, v) => {
+                self.text(b"  ; wrote ");
+                self.value(v);
+                self.text(b" at ");
+                self.hexadecimal(address);
+            }
             Note::Unknown => self.text(b"  ; its result is unknown"),
             Note::NotFollowed => self.not_followed(step),
         }

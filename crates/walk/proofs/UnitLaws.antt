@@ -1,8 +1,9 @@
 -- What a unit buys, as runs on the code's host. Assumes nothing.
 use mathlib.Core.Path.{◌≡◌, refl, sym, ap, ap₂, ◌∙◌, subst, fun_ext}
-use mathlib.Core.Bool.{Bool, true, false, true≢false}
+use mathlib.Core.Bool.{Bool, true, false, not}
 use mathlib.Core.List.{List}
-use Rattle.std.specs.Prelude.{Option, None, Some}
+use Rattle.std.specs.Prelude.{Option, None, Some, is_some, is_none}
+use Rattle.std.proofs.lemmas.Option.{none-some, same_Some}
 use Prim.Native.Nat.{ℕ, zero, suc, ◌+◌, ◌-◌, ◌*◌, ◌≤◌, ◌<◌}
 use native.Mathlib.Numerals.{add-one}
 use native.Mathlib.Omega.{arith}
@@ -67,13 +68,13 @@ settle_by E nodes ss blocks p b k t e =
 
 outside_stays : (blocks : List ℕ) (p : Place) (b : ℕ) (n : ControlFlow Stop Spot) → Outside n → Stays blocks p b n
 outside_stays blocks p b (Break s) h = tt
-outside_stays blocks p b (Continue s) h = λ e. absurd (true≢false (sym e ∙ h))
+outside_stays blocks p b (Continue s) h = λ k e. absurd (none-some k (sym h ∙ e))
 
 module _ {nodes symbols regions ss blocks : List ℕ} {p : Place} {b k n : ℕ} (count : (n ≡ number_at blocks p.start 2) × (n < 65536)) where
-  pub settles_within : {w o : List ℕ} → k < n → Settles nodes symbols regions ss blocks p b k w o (Continue (record { block = b; statement = k; inside = true })) w o
+  pub settles_within : {w o : List ℕ} → k < n → Settles nodes symbols regions ss blocks p b k w o (Continue (record { block = b; statement = Some k })) w o
   settles_within l = record {
     goes = λ limit. acts (λ h x m. settle_by x.env nodes ss blocks p b k true (lt-ltb k (number_at blocks p.start 2) (omega (arith, count.0)))) (done_goes (λ x. walk.goes (walk.within b k)) (λ h x m. refl));
-    stays = λ e. (refl, omega (arith, count.0));
+    stays = λ j e. (refl, omega (arith, count.0, same_Some k j e));
   }
 
   pub settles_past : {w₀ o₀ w o : List ℕ} {q : ControlFlow Stop Spot} → n ≤ k → Terminates nodes symbols regions ss blocks p w₀ o₀ q w o → Settles nodes symbols regions ss blocks p b k w₀ o₀ q w o
@@ -90,20 +91,20 @@ statement_inside all h = omega (arith, all.dealt.dealt, h.below)
 pub statement_small : {blocks : List ℕ} {p : Place} {k : ℕ} → Here blocks p k → k < 65536
 statement_small {blocks} {p} h = omega (arith, h.below, number_at_lt blocks p.start 2)
 
--- a spot, by whether it is in a block
-abbrev spot_by : Spot → Bool → Spot
-spot_by s i = record { block = s.block; statement = s.statement; inside = i }
+-- a spot, by the statement that it is before
+abbrev spot_by : Spot → Option ℕ → Spot
+spot_by s i = record { block = s.block; statement = i }
 
 module _ {nodes symbols regions ss : List ℕ} {f : Facts} {p : Place} {s : Spot} where
-  pub runs_statement : {w₀ o₀ w o : List ℕ} {r : Option Stop} → s.inside ≡ true → RunsStatement nodes symbols regions ss f s.block (p.first + s.statement) w₀ o₀ r w o → RunsAt nodes symbols regions ss f p s w₀ o₀ r w o
+  pub runs_statement : {k : ℕ} {w₀ o₀ w o : List ℕ} {r : Option Stop} → s.statement ≡ Some k → RunsStatement nodes symbols regions ss f s.block (p.first + k) w₀ o₀ r w o → RunsAt nodes symbols regions ss f p s w₀ o₀ r w o
   runs_statement e q = record {
-    goes = λ P named limit. acts (λ h x m. ap (λ (i : Bool). run_act P x.env nodes ss p (spot_by s i)) e) (q.goes P named limit);
+    goes = λ P named limit. acts (λ h x m. ap (λ (i : Option ℕ). run_act P x.env nodes ss p (spot_by s i)) e) (q.goes P named limit);
     remains = q.remains;
   }
 
-  pub runs_nothing : {w o : List ℕ} → s.inside ≡ false → ReadyIn (given nodes symbols regions) w → RunsAt nodes symbols regions ss f p s w o None w o
+  pub runs_nothing : {w o : List ℕ} → s.statement ≡ None → ReadyIn (given nodes symbols regions) w → RunsAt nodes symbols regions ss f p s w o None w o
   runs_nothing e r = record {
-    goes = λ P named limit. acts (λ h x m. ap (λ (i : Bool). run_act P x.env nodes ss p (spot_by s i)) e) (done_goes (λ x. None) (λ h x m. refl));
+    goes = λ P named limit. acts (λ h x m. ap (λ (i : Option ℕ). run_act P x.env nodes ss p (spot_by s i)) e) (done_goes (λ x. None) (λ h x m. refl));
     remains = record { how = refl; units = refl; ready = r; tables = refl };
   }
 
@@ -118,15 +119,15 @@ settling E nodes ss blocks p b n (Some s) = done (walk.stops s)
 unit_parts : (P : Program) (E : Env) (nodes ss blocks : List ℕ) (p : Place) (s : Spot)
     → unit_act P E nodes ss blocks p s ≡ (run_act P E nodes ss p s >>= settling E nodes ss blocks p s.block (ahead_of s))
 unfolding ◌>>=◌
-unit_parts P E nodes ss blocks p s = go s.inside
+unit_parts P E nodes ss blocks p s = go s.statement
   where
-    onward_is : (o : Option statements.Stop) → walk.onward E s.block (block_of nodes ss blocks p) s.statement o ≡ settling E nodes ss blocks p s.block (s.statement + 1) o
-    onward_is None = ap (walk.settle E s.block (block_of nodes ss blocks p)) (sym (add-one s.statement))
-    onward_is (Some h) = refl
+    onward_is : (k : ℕ) (o : Option statements.Stop) → walk.onward E s.block (block_of nodes ss blocks p) k o ≡ settling E nodes ss blocks p s.block (k + 1) o
+    onward_is k None = ap (walk.settle E s.block (block_of nodes ss blocks p)) (sym (add-one k))
+    onward_is k (Some h) = refl
 
-    go : (i : Bool) → unit_act P E nodes ss blocks p (spot_by s i) ≡ (run_act P E nodes ss p (spot_by s i) >>= settling E nodes ss blocks p s.block (ahead_of (spot_by s i)))
-    go true = ap (λ (k : Option statements.Stop → Act walk.Next). statements.run_statement P E s.block (statement_at nodes ss (p.first + s.statement)) >>= k) (fun_ext onward_is)
-    go false = refl
+    go : (i : Option ℕ) → unit_act P E nodes ss blocks p (spot_by s i) ≡ (run_act P E nodes ss p (spot_by s i) >>= settling E nodes ss blocks p s.block (ahead_of (spot_by s i)))
+    go (Some k) = ap (λ (f : Option statements.Stop → Act walk.Next). statements.run_statement P E s.block (statement_at nodes ss (p.first + k)) >>= f) (fun_ext (onward_is k))
+    go None = refl
 
 stopped_goes : {g : How → Given} {m : Scene → Act (Option statements.Stop)} (f : Scene → Option statements.Stop → Act walk.Next) {w₀ o₀ w o : List ℕ} (e : Ending statements.Stop)
     → ((x : Scene) (s : statements.Stop) → f x (Some s) ≡ done (walk.stops s)) → going.Goes g m w₀ o₀ (some_end e) w o → going.Goes g (λ x. m x >>= f x) w₀ o₀ (stops_end e) w o
@@ -182,8 +183,8 @@ placing {nodes} {ss} {blocks} {k = k} {p = p} all is l =
     }
 
 pub here_at : {nodes ss blocks part : List ℕ} {count : ℕ} {s : Spot} {p : Place} → Rooted nodes ss blocks part count → Placed part s.block p → s.block < count → PlacedAt blocks count s
-    → s.inside ≡ true → Here blocks p s.statement
-here_at {blocks = blocks} all is l at e = let q = is.is blocks _ all.indexed l in record { below = omega (arith, at.here e, ap (λ (i : ℕ). number_at blocks i 2) q.start) }
+    → (k : ℕ) → s.statement ≡ Some k → Here blocks p k
+here_at {blocks = blocks} all is l at k e = let q = is.is blocks _ all.indexed l in record { below = omega (arith, at.here k e, ap (λ (i : ℕ). number_at blocks i 2) q.start) }
 
 -- ---- a unit is paid
 
@@ -209,6 +210,11 @@ module _ (a : Counts) {b : Bool} (some : 0 < a.tally.left) where
 
   paid_statement : b ≡ false → with_units (record { left = a.tally.left - 1; entered = a.tally.entered; steps = a.tally.steps + 1 }) a ≡ paid_counts b a
   paid_statement e = sym (ap (λ (z : Bool). paid_counts z a) e ∙ ap (counts_with a) (paid_with a.tally.left false a.tally some))
+
+-- paid on a block, by the test of a spot that is before no statement
+pub pays_at : (o : Option ℕ) {b : Bool} {w w' : List ℕ} → is_some o ≡ not b → Pays b w w' → Pays (is_none o) w w'
+pays_at o {b = true} {w} {w'} e p = subst (λ (z : Bool). Pays (not z) w w') (sym e) p
+pays_at o {b = false} {w} {w'} e p = subst (λ (z : Bool). Pays (not z) w w') (sym e) p
 
 -- in the registers: one unit less is left, and one more is spent
 module _ {w w₁ : List ℕ} {n : ℕ} (is : n ≡ word_at (registers_part w) 3) (less : SetsWord w 3 (n - 1) w₁) where

@@ -1,8 +1,9 @@
 -- A turn of the walk: a unit is spent, and what it buys leads on. Assumes nothing.
 use mathlib.Core.Path.{◌≡◌, refl, sym, ap, ap₂, ◌∙◌, subst}
-use mathlib.Core.Bool.{Bool, true, false, not, true≢false}
+use mathlib.Core.Bool.{Bool, true, false}
 use mathlib.Core.List.{List}
-use Rattle.std.specs.Prelude.{Option, None, Some, slice_get}
+use Rattle.std.specs.Prelude.{Option, None, Some, is_none, slice_get}
+use Rattle.std.proofs.lemmas.Option.{none-some}
 use Prim.Native.Nat.{ℕ, zero, suc, ◌+◌, ◌≤◌, ◌<◌, ◌^◌}
 use native.Mathlib.Omega.{arith}
 use Rattle.layout.specs.Number.{number_at}
@@ -45,29 +46,29 @@ use Rattle.walk.proofs.UnitLaws.{paid_given}
 
 -- ---- what a unit buys in the definition
 
-abbrev place_by : Bool → ℕ → ℕ → walk.Place
-place_by i b k = elim i [ true ↦ walk.within b k | false ↦ walk.before b ]
+abbrev place_by : Option ℕ → ℕ → walk.Place
+place_by i b = elim i [ Some k ↦ walk.within b k | None ↦ walk.before b ]
 
-abbrev buys : Program → Env → (nodes ss blocks : List ℕ) → Place → (b k : ℕ) → Bool → Bool × Act walk.Next
-buys P E nodes ss blocks p b k i = (
-  not i,
+abbrev buys : Program → Env → (nodes ss blocks : List ℕ) → Place → (b : ℕ) → Option ℕ → Bool × Act walk.Next
+buys P E nodes ss blocks p b i = (
+  is_none i,
   elim i [
-    | true ↦ statements.run_statement P E b (statement_at nodes ss (p.first + k)) >>= walk.onward E b (block_of nodes ss blocks p) k
-    | false ↦ walk.settle E b (block_of nodes ss blocks p) 0
+    | Some k ↦ statements.run_statement P E b (statement_at nodes ss (p.first + k)) >>= walk.onward E b (block_of nodes ss blocks p) k
+    | None ↦ walk.settle E b (block_of nodes ss blocks p) 0
   ],
 )
 
-unit_by : (P : Program) (E : Env) (nodes ss blocks : List ℕ) (p : Place) (b k : ℕ) (i : Bool) → slice_get P.blocks b ≡ Some (block_of nodes ss blocks p)
-    → (i ≡ true → k < number_at blocks p.start 2) → walk.unit P E (place_by i b k) ≡ Some (buys P E nodes ss blocks p b k i)
+unit_by : (P : Program) (E : Env) (nodes ss blocks : List ℕ) (p : Place) (b : ℕ) (i : Option ℕ) → slice_get P.blocks b ≡ Some (block_of nodes ss blocks p)
+    → ((k : ℕ) → i ≡ Some k → k < number_at blocks p.start 2) → walk.unit P E (place_by i b) ≡ Some (buys P E nodes ss blocks p b i)
 unfolding walk.unit
-unit_by P E nodes ss blocks p b k false e h = ap (λ (o : Option Block). elim o [ None ↦ None | Some block ↦ Some (true, walk.settle E b block 0) ]) e
-unit_by P E nodes ss blocks p b k true e h =
+unit_by P E nodes ss blocks p b None e h = ap (λ (o : Option Block). elim o [ None ↦ None | Some block ↦ Some (true, walk.settle E b block 0) ]) e
+unit_by P E nodes ss blocks p b (Some k) e h =
     ap (λ (o : Option Block). elim o [
       | None ↦ None
       | Some block ↦ elim (slice_get block.statements k) [ None ↦ None | Some s ↦ Some (false, statements.run_statement P E b s >>= walk.onward E b block k) ]
     ]) e
     ∙ ap (λ (o : Option Statement). elim o [ None ↦ None | Some s ↦ Some (false, statements.run_statement P E b s >>= walk.onward E b (block_of nodes ss blocks p) k) ])
-    (listed_at (statement_at nodes ss) p.first (number_at blocks p.start 2) k (h refl))
+    (listed_at (statement_at nodes ss) p.first (number_at blocks p.start 2) k (h k refl))
 
 module _ {nodes ss blocks part : List ℕ} {f : Facts} (all : Rooted nodes ss blocks part f.blocks) (P : Program) (told : Told nodes ss blocks f P) where
   pub block_found_at : (b : ℕ) → b < f.blocks → slice_get P.blocks b ≡ Some (block_at nodes ss blocks (block_start blocks b) (block_first blocks b))
@@ -164,32 +165,32 @@ module _ {nodes ss blocks part : List ℕ} (f : Facts) {s : Spot} {p : Place} (a
   start_is : p.start ≡ block_start blocks s.block
   start_is = (is.is blocks f.blocks all.indexed l).start
 
-  unit_there : (P : Program) (E : Env) → Told nodes ss blocks f P → walk.unit P E (place_of s) ≡ Some (not s.inside, unit_act P E nodes ss blocks p s)
+  unit_there : (P : Program) (E : Env) → Told nodes ss blocks f P → walk.unit P E (place_of s) ≡ Some (is_none s.statement, unit_act P E nodes ss blocks p s)
   unit_there P E told =
-      unit_by P E nodes ss blocks p s.block s.statement s.inside (block_found all P told s.block is l)
-      (λ e. omega (arith, at.here e, ap (λ (i : ℕ). number_at blocks i 2) start_is))
+      unit_by P E nodes ss blocks p s.block s.statement (block_found all P told s.block is l)
+      (λ k e. omega (arith, at.here k e, ap (λ (i : ℕ). number_at blocks i 2) start_is))
 
-  next_placed : {q : Spot} → (q.inside ≡ true → (q.block ≡ s.block) × (q.statement < number_at blocks p.start 2)) → PlacedAt blocks f.blocks q
+  next_placed : {q : Spot} → ((k : ℕ) → q.statement ≡ Some k → (q.block ≡ s.block) × (k < number_at blocks p.start 2)) → PlacedAt blocks f.blocks q
   next_placed {q} st = record {
-    block = λ e. omega (arith, (st e).0, l);
-    here = λ e. omega (arith, (st e).1, ap (λ (i : ℕ). number_at blocks i 2) (start_is ∙ ap (block_start blocks) (sym (st e).0)));
+    block = λ k e. omega (arith, (st k e).0, l);
+    here = λ k e. omega (arith, (st k e).1, ap (λ (i : ℕ). number_at blocks i 2) (start_is ∙ ap (block_start blocks) (sym (st k e).0)));
   }
 
-  module _ {symbols regions w₀ o₀ w₁ w o : List ℕ} (ready : ReadyIn (given nodes symbols regions) w₀) (bal : Balanced (counts_in w₀).tally) (some : 0 < (counts_in w₀).tally.left) (pays : Pays (not s.inside) w₀ w₁) where
+  module _ {symbols regions w₀ o₀ w₁ w o : List ℕ} (ready : ReadyIn (given nodes symbols regions) w₀) (bal : Balanced (counts_in w₀).tally) (some : 0 < (counts_in w₀).tally.left) (pays : Pays (is_none s.statement) w₀ w₁) where
     turns_to : (n : ControlFlow Stop Spot) → UnitOf nodes symbols regions ss blocks f p s w₁ o₀ n w o → TurnsTo (given nodes symbols regions (how_in w₀)) ss blocks f s w₀ o₀ n w o
     turns_to (Break stop) u = λ P told limit.
-        walk_stops P limit (place_of s) (λ x. unit_act P x.env nodes ss blocks p s) w₀ o₀ (counts_in w₀) (paid_tally (counts_in w₀).tally.left (not s.inside) (counts_in w₀).tally).left
-        (paid_left (counts_in w₀).tally.left (not s.inside) (counts_in w₀).tally some) (λ x h. unit_there P x.env told) (stop_end limit stop) (paid_runs pays ready (u.goes P told.named limit))
+        walk_stops P limit (place_of s) (λ x. unit_act P x.env nodes ss blocks p s) w₀ o₀ (counts_in w₀) (paid_tally (counts_in w₀).tally.left (is_none s.statement) (counts_in w₀).tally).left
+        (paid_left (counts_in w₀).tally.left (is_none s.statement) (counts_in w₀).tally some) (λ x h. unit_there P x.env told) (stop_end limit stop) (paid_runs pays ready (u.goes P told.named limit))
     turns_to (Continue q) u =
         let units = paid_units pays u.remains in
-        let one : (counts_in w₀).tally.left ≡ suc (counts_in w).tally.left = paid_left (counts_in w₀).tally.left (not s.inside) (counts_in w₀).tally some ∙ ap (λ (v : Units). suc v.left) units in
+        let one : (counts_in w₀).tally.left ≡ suc (counts_in w).tally.left = paid_left (counts_in w₀).tally.left (is_none s.statement) (counts_in w₀).tally some ∙ ap (λ (v : Units). suc v.left) units in
         let how = u.remains.how ∙ pays.how in (
           record {
             ready = subst (λ (h : How). Ready (given nodes symbols regions h) w (counts_in w)) how u.remains.ready.ready;
             how = how;
             placed = next_placed u.stays;
             balanced = record {
-              fits = subst (λ (v : Units). v.left + v.entered + v.steps < 2 ^ 64) units (paid_fits (counts_in w₀).tally.left (not s.inside) (counts_in w₀).tally some bal.fits).fits;
+              fits = subst (λ (v : Units). v.left + v.entered + v.steps < 2 ^ 64) units (paid_fits (counts_in w₀).tally.left (is_none s.statement) (counts_in w₀).tally some bal.fits).fits;
             };
             less = omega (arith, one);
             tables = u.remains.tables ∙ pays.aside.tables;
@@ -215,13 +216,13 @@ pub record Left (nodes symbols regions ss blocks : List ℕ) (f : Facts) (w₀ o
       → Runs (given nodes symbols regions (how_in w₀)) (λ x. walk_on P x.env limit (counts_in w).tally.left (place_of s)) w o (counts_in w) e w' o' a'
       → Runs (given nodes symbols regions (how_in w₀)) (λ x. walk_on P x.env limit (counts_in w₀).tally.left (walk.before 0)) w₀ o₀ (counts_in w₀) e w' o' a'
 
-pub begins : {nodes symbols regions ss blocks : List ℕ} {f : Facts} {w o : List ℕ} {s : Spot} → s ≡ record { block = 0; statement = 0; inside = false } → ReadyIn (given nodes symbols regions) w
+pub begins : {nodes symbols regions ss blocks : List ℕ} {f : Facts} {w o : List ℕ} {s : Spot} → s ≡ record { block = 0; statement = None } → ReadyIn (given nodes symbols regions) w
     → Rooted nodes ss blocks (blocks_part (tables w)) f.blocks → Balanced (counts_in w).tally → Left nodes symbols regions ss blocks f w o s w o
 begins {nodes} {symbols} {regions} {ss} {blocks} {f} {w} {o} is r all b = subst (λ (s : Spot). Left nodes symbols regions ss blocks f w o s w o) (sym is) (record {
   ready = r;
   how = refl;
   rooted = all;
-  placed = record { block = λ e. absurd (true≢false (sym e)); here = λ e. absurd (true≢false (sym e)) };
+  placed = record { block = λ k e. absurd (none-some k e); here = λ k e. absurd (none-some k e) };
   balanced = b;
   rest = λ P told limit e w' o' a' q. q;
 })
@@ -264,9 +265,9 @@ module _ {nodes symbols regions ss blocks : List ℕ} {f : Facts} {w₀ o₀ : L
       p : Place
       p = record { start = block_start blocks s.block; first = block_first blocks s.block }
 
-      there : (P : Program) (E : Env) → Told nodes ss blocks f P → walk.unit P E (place_of s) ≡ Some (buys P E nodes ss blocks p s.block s.statement s.inside)
+      there : (P : Program) (E : Env) → Told nodes ss blocks f P → walk.unit P E (place_of s) ≡ Some (buys P E nodes ss blocks p s.block s.statement)
       there P E told =
-          unit_by P E nodes ss blocks p s.block s.statement s.inside
+          unit_by P E nodes ss blocks p s.block s.statement
           (block_found_at so.rooted P told s.block l)
           so.placed.here
 
@@ -276,14 +277,14 @@ module _ {nodes symbols regions ss blocks : List ℕ} {f : Facts} {w₀ o₀ : L
   stops_missing l = record {
     runs = λ P told limit.
         so.rest P told limit (ended (statements.NoBlock s.block)) w o (counts_in w)
-        (acts (λ x h. ap (λ (pl : walk.Place). walk_on P x.env limit (counts_in w).tally.left pl) (outside s.inside refl)
+        (acts (λ x h. ap (λ (pl : walk.Place). walk_on P x.env limit (counts_in w).tally.left pl) (outside s.statement refl)
         ∙ ap (λ (m : Act walk.Next). m >>= finish limit) (walk_missing P x.env (counts_in w).tally.left (walk.before s.block) (missing P x.env told)))
         (done_runs (λ x. statements.NoBlock s.block) (λ x h. refl) ready_so));
   }
     where
-      outside : (i : Bool) → s.inside ≡ i → place_by i s.block s.statement ≡ walk.before s.block
-      outside false e = refl
-      outside true e = absurd (omega (arith, so.placed.block e, l))
+      outside : (i : Option ℕ) → s.statement ≡ i → place_by i s.block ≡ walk.before s.block
+      outside None e = refl
+      outside (Some k) e = absurd (omega (arith, so.placed.block k e, l))
 
       missing : (P : Program) (E : Env) → Told nodes ss blocks f P → walk.unit P E (walk.before s.block) ≡ None
       missing P E told = no_unit P E s.block (block_missing so.rooted P told s.block l)

@@ -1,5 +1,5 @@
 -- What the parts of a walk over units ensure. Assumes nothing.
-use Rattle.std.specs.Prelude.{◌≡◌, Bool, true, false, List, ℕ, ◌+◌, ◌<◌, Option, None}
+use Rattle.std.specs.Prelude.{◌≡◌, Bool, List, ℕ, ◌+◌, ◌<◌, Option, None, Some}
 use Rattle.layout.specs.Number.{number_at}
 use Rattle.files.specs.Program.{Program, statement_at}
 use Rattle.definition.specs.Act.{Act, done, ◌>>=◌}
@@ -39,7 +39,7 @@ pub record Pays (block : Bool) (w w' : List ℕ) : Type 0 where
 -- what comes next is a statement of block n, which is at a place, or none that was entered
 abbrev pub Stays : List ℕ → Place → ℕ → ControlFlow Stop Spot → Type 0
 Stays blocks p n (Break s) = Unit
-Stays blocks p n (Continue s) = s.inside ≡ true → (s.block ≡ n) × (s.statement < number_at blocks p.start 2)
+Stays blocks p n (Continue s) = (k : ℕ) → s.statement ≡ Some k → (s.block ≡ n) × (k < number_at blocks p.start 2)
 
 -- in nodes b, with symbols s and regions r
 pub record Settles (b s r ss blocks : List ℕ) (p : Place) (n k : ℕ) (w₀ o₀ : List ℕ) (q : ControlFlow Stop Spot) (w o : List ℕ) : Type 0 where
@@ -48,9 +48,9 @@ pub record Settles (b s r ss blocks : List ℕ) (p : Place) (n k : ℕ) (w₀ o�
 
 -- what a unit runs at a spot before the walk settles: the statement there, or nothing where a block is entered
 abbrev pub run_act : Program → Env → (nodes ss : List ℕ) → Place → Spot → Act (Option statements.Stop)
-run_act P E nodes ss p s = elim s.inside [
-  | true ↦ statements.run_statement P E s.block (statement_at nodes ss (p.first + s.statement))
-  | false ↦ done None
+run_act P E nodes ss p s = elim s.statement [
+  | Some k ↦ statements.run_statement P E s.block (statement_at nodes ss (p.first + k))
+  | None ↦ done None
 ]
 
 pub record RunsAt (b s r ss : List ℕ) (f : Facts) (p : Place) (i : Spot) (w₀ o₀ : List ℕ) (h : Option Stop) (w o : List ℕ) : Type 0 where
@@ -59,13 +59,13 @@ pub record RunsAt (b s r ss : List ℕ) (f : Facts) (p : Place) (i : Spot) (w₀
 
 -- the statement before which it then settles
 abbrev pub ahead_of : Spot → ℕ
-ahead_of s = elim s.inside [ true ↦ s.statement + 1 | false ↦ 0 ]
+ahead_of s = elim s.statement [ Some k ↦ k + 1 | None ↦ 0 ]
 
 -- what a unit buys at a spot of the walk
 abbrev pub unit_act : Program → Env → (nodes statements blocks : List ℕ) → Place → Spot → Act walk.Next
-unit_act P E nodes ss blocks p s = elim s.inside [
-  | true ↦ statements.run_statement P E s.block (statement_at nodes ss (p.first + s.statement)) >>= walk.onward E s.block (block_of nodes ss blocks p) s.statement
-  | false ↦ walk.settle E s.block (block_of nodes ss blocks p) 0
+unit_act P E nodes ss blocks p s = elim s.statement [
+  | Some k ↦ statements.run_statement P E s.block (statement_at nodes ss (p.first + k)) >>= walk.onward E s.block (block_of nodes ss blocks p) k
+  | None ↦ walk.settle E s.block (block_of nodes ss blocks p) 0
 ]
 
 pub record UnitOf (b s r ss blocks : List ℕ) (f : Facts) (p : Place) (i : Spot) (w₀ o₀ : List ℕ) (q : ControlFlow Stop Spot) (w o : List ℕ) : Type 0 where

@@ -1,7 +1,7 @@
 // The walk over a routine's blocks, one unit at a time: a block is entered or a statement run, and the terminator that follows costs nothing.
 #![tactic(auto)]
 
-ghost use Rattle.std.specs.Prelude.{◌≡◌, true, false, ◌+◌, ◌*◌, ◌<◌, ◌≤◌, length};
+ghost use Rattle.std.specs.Prelude.{◌≡◌, ℕ, Some, None, ◌+◌, ◌*◌, ◌<◌, ◌≤◌, length};
 ghost use Rattle.index.specs.Blocks.{BlockTold, Placed};
 ghost use Rattle.workspace.specs.Parts.{workspace_size, tables, blocks_part};
 ghost use Rattle.hosting.specs.Scene.{given, Ready};
@@ -25,22 +25,21 @@ use workspace::registers;
 
 // Before a statement of the block at a place: it is there, or the terminator comes, at no cost.
 fn settle(
-    bodies: Bodies,
+    bodies: &Bodies,
     ws: &mut [u8],
     out: &mut [u8],
     place: Place,
     block: usize,
     k: usize,
 ) -> ControlFlow<Stop, Spot>
-    requires ready_in { ReadyIn (given bodies.reads.nodes.now bodies.reads.symbols.now bodies.reads.regions.now) ws.old }
-    requires placing { Placing bodies.reads.nodes.now bodies.statements.now bodies.blocks.now place }
-    ensures { Settles bodies.entry.reads.nodes.now bodies.entry.reads.symbols.now bodies.entry.reads.regions.now bodies.entry.statements.now bodies.entry.blocks.now place block k ws.old out.old result ws.new out.new }
+    requires ready_in { ReadyIn (given bodies.now.reads.nodes.now bodies.now.reads.symbols.now bodies.now.reads.regions.now) ws.old }
+    requires placing { Placing bodies.now.reads.nodes.now bodies.now.statements.now bodies.now.blocks.now place }
+    ensures { Settles bodies.now.reads.nodes.now bodies.now.reads.symbols.now bodies.now.reads.regions.now bodies.now.statements.now bodies.now.blocks.now place block k ws.old out.old result ws.new out.new }
 {
     if k < index::blocks::statement_count(bodies.blocks, place.start) {
         return ControlFlow::Continue(Spot {
             block,
-            statement: k,
-            inside: true,
+            statement: Some(k),
         });
     }
     statements::terminators::terminate(bodies, ws, out, place)
@@ -48,54 +47,45 @@ fn settle(
 
 // What a unit runs at a spot before the walk settles: the statement there, or nothing where a block is entered.
 fn run_at(
-    bodies: Bodies,
+    bodies: &Bodies,
     ws: &mut [u8],
     out: &mut [u8],
     facts: Facts,
     place: Place,
     spot: Spot,
 ) -> Option<Stop>
-    requires ready_in { ReadyIn (given bodies.reads.nodes.now bodies.reads.symbols.now bodies.reads.regions.now) ws.old }
-    requires roots_of { (RootsOf bodies.reads.nodes.now bodies.statements.now) × ((spot.inside ≡ true) → (place.first + spot.statement) * 13 + 13 ≤ length bodies.statements.now) }
-    ensures { RunsAt bodies.entry.reads.nodes.now bodies.entry.reads.symbols.now bodies.entry.reads.regions.now bodies.entry.statements.now facts place spot ws.old out.old result ws.new out.new }
+    requires ready_in { ReadyIn (given bodies.now.reads.nodes.now bodies.now.reads.symbols.now bodies.now.reads.regions.now) ws.old }
+    requires roots_of { (RootsOf bodies.now.reads.nodes.now bodies.now.statements.now) × ((k : ℕ) → spot.statement ≡ Some k → (place.first + k) * 13 + 13 ≤ length bodies.now.statements.now) }
+    ensures { RunsAt bodies.now.reads.nodes.now bodies.now.reads.symbols.now bodies.now.reads.regions.now bodies.now.statements.now facts place spot ws.old out.old result ws.new out.new }
 {
-    if spot.inside {
-        return statements::statements::statement(
-            bodies,
-            ws,
-            out,
-            facts,
-            spot.block,
-            place.first + spot.statement,
-        );
-    }
-    None
+    let k = spot.statement?;
+    statements::statements::statement(bodies, ws, out, facts, spot.block, place.first + k)
 }
 
 // The statement ahead of a spot: the one after it, or the first of a block that is entered.
 fn ahead(spot: Spot) -> usize
-    requires { (spot.inside ≡ true) → spot.statement < 65536 }
+    requires { (k : ℕ) → spot.statement ≡ Some k → k < 65536 }
     ensures { result ≡ ahead_of spot }
 {
-    if spot.inside {
-        return spot.statement + 1;
+    match spot.statement {
+        Some(k) => k + 1,
+        None => 0,
     }
-    0
 }
 
 // What one unit buys: the block at a place is entered, or a statement of it run.
-// Both come to the only call of `settle`: with two the compiler makes a function of it, and each unit pays for a call with ten arguments.
+// Both come to the only call of `settle`: with two the compiler makes a function of it, and each unit pays for a call.
 fn unit(
-    bodies: Bodies,
+    bodies: &Bodies,
     ws: &mut [u8],
     out: &mut [u8],
     facts: Facts,
     place: Place,
     spot: Spot,
 ) -> ControlFlow<Stop, Spot>
-    requires ready_in { ReadyIn (given bodies.reads.nodes.now bodies.reads.symbols.now bodies.reads.regions.now) ws.old }
-    requires placing { (Placing bodies.reads.nodes.now bodies.statements.now bodies.blocks.now place) × ((spot.inside ≡ true) → Here bodies.blocks.now place spot.statement) }
-    ensures { UnitOf bodies.entry.reads.nodes.now bodies.entry.reads.symbols.now bodies.entry.reads.regions.now bodies.entry.statements.now bodies.entry.blocks.now facts place spot ws.old out.old result ws.new out.new }
+    requires ready_in { ReadyIn (given bodies.now.reads.nodes.now bodies.now.reads.symbols.now bodies.now.reads.regions.now) ws.old }
+    requires placing { (Placing bodies.now.reads.nodes.now bodies.now.statements.now bodies.now.blocks.now place) × ((k : ℕ) → spot.statement ≡ Some k → Here bodies.now.blocks.now place k) }
+    ensures { UnitOf bodies.now.reads.nodes.now bodies.now.reads.symbols.now bodies.now.reads.regions.now bodies.now.statements.now bodies.now.blocks.now facts place spot ws.old out.old result ws.new out.new }
 {
     let halt = run_at(bodies, ws, out, facts, place, spot);
     match halt {
@@ -140,40 +130,39 @@ fn place_of(ws: &[u8], block: usize) -> Place
 
 // One turn of the walk: a unit is spent, and what it buys is done.
 fn turn(
-    bodies: Bodies,
+    bodies: &Bodies,
     ws: &mut [u8],
     out: &mut [u8],
     facts: Facts,
     spot: Spot,
 ) -> ControlFlow<Stop, Spot>
-    requires ready_in { ReadyIn (given bodies.reads.nodes.now bodies.reads.symbols.now bodies.reads.regions.now) ws.old }
-    requires rooted { Rooted bodies.reads.nodes.now bodies.statements.now bodies.blocks.now (blocks_part (tables ws.old)) facts.blocks }
-    requires placed_at { (PlacedAt bodies.blocks.now facts.blocks spot) × (spot.block < facts.blocks) }
+    requires ready_in { ReadyIn (given bodies.now.reads.nodes.now bodies.now.reads.symbols.now bodies.now.reads.regions.now) ws.old }
+    requires rooted { Rooted bodies.now.reads.nodes.now bodies.now.statements.now bodies.now.blocks.now (blocks_part (tables ws.old)) facts.blocks }
+    requires placed_at { (PlacedAt bodies.now.blocks.now facts.blocks spot) × (spot.block < facts.blocks) }
     requires balanced { (Balanced (counts_in ws.old).tally) × (0 < (counts_in ws.old).tally.left) }
-    ensures { Turns (given bodies.entry.reads.nodes.now bodies.entry.reads.symbols.now bodies.entry.reads.regions.now (how_in ws.old)) bodies.entry.statements.now bodies.entry.blocks.now facts spot ws.old out.old result ws.new out.new }
+    ensures { Turns (given bodies.now.reads.nodes.now bodies.now.reads.symbols.now bodies.now.reads.regions.now (how_in ws.old)) bodies.now.statements.now bodies.now.blocks.now facts spot ws.old out.old result ws.new out.new }
 {
     let place = place_of(ws, spot.block);
-    pay(ws, !spot.inside);
+    pay(ws, spot.statement.is_none());
     unit(bodies, ws, out, facts, place, spot)
 }
 
 // Before block 0, where the walk starts.
 fn entry() -> Spot
-    ensures { result ≡ record { block = 0; statement = 0; inside = false } }
+    ensures { result ≡ record { block = 0; statement = None } }
 {
     Spot {
         block: 0,
-        statement: 0,
-        inside: false,
+        statement: None,
     }
 }
 
 // The walk from block 0. (A loop over where the walk is: no range says which block comes next.)
-fn rounds(bodies: Bodies, ws: &mut [u8], out: &mut [u8], facts: Facts) -> Stop
-    requires ready_in { ReadyIn (given bodies.reads.nodes.now bodies.reads.symbols.now bodies.reads.regions.now) ws.old }
-    requires rooted { Rooted bodies.reads.nodes.now bodies.statements.now bodies.blocks.now (blocks_part (tables ws.old)) facts.blocks }
+fn rounds(bodies: &Bodies, ws: &mut [u8], out: &mut [u8], facts: Facts) -> Stop
+    requires ready_in { ReadyIn (given bodies.now.reads.nodes.now bodies.now.reads.symbols.now bodies.now.reads.regions.now) ws.old }
+    requires rooted { Rooted bodies.now.reads.nodes.now bodies.now.statements.now bodies.now.blocks.now (blocks_part (tables ws.old)) facts.blocks }
     requires balanced { Balanced (counts_in ws.old).tally }
-    ensures { WalksFrom (given bodies.entry.reads.nodes.now bodies.entry.reads.symbols.now bodies.entry.reads.regions.now (how_in ws.old)) bodies.entry.statements.now bodies.entry.blocks.now facts ws.old out.old result ws.new out.new }
+    ensures { WalksFrom (given bodies.now.reads.nodes.now bodies.now.reads.symbols.now bodies.now.reads.regions.now (how_in ws.old)) bodies.now.statements.now bodies.now.blocks.now facts ws.old out.old result ws.new out.new }
 {
     let mut spot = entry();
     while spot.block < facts.blocks {
@@ -196,17 +185,17 @@ fn rounds(bodies: Bodies, ws: &mut [u8], out: &mut [u8], facts: Facts) -> Stop
 
 // The routine is walked, if it has a block. The counts are in the registers until the walk ends.
 pub fn walk(
-    bodies: Bodies,
+    bodies: &Bodies,
     ws: &mut [u8],
     out: &mut [u8],
     how: How,
     facts: Facts,
     at: Counts,
 ) -> Walked
-    requires ready { Ready (given bodies.reads.nodes.now bodies.reads.symbols.now bodies.reads.regions.now how) ws.old at }
-    requires rooted { Rooted bodies.reads.nodes.now bodies.statements.now bodies.blocks.now (blocks_part (tables ws.old)) facts.blocks }
+    requires ready { Ready (given bodies.now.reads.nodes.now bodies.now.reads.symbols.now bodies.now.reads.regions.now how) ws.old at }
+    requires rooted { Rooted bodies.now.reads.nodes.now bodies.now.statements.now bodies.now.blocks.now (blocks_part (tables ws.old)) facts.blocks }
     requires balanced { Balanced at.tally }
-    ensures { WalksAll (given bodies.entry.reads.nodes.now bodies.entry.reads.symbols.now bodies.entry.reads.regions.now how) bodies.entry.statements.now bodies.entry.blocks.now facts at.tally.left ws.old out.old at result ws.new out.new }
+    ensures { WalksAll (given bodies.now.reads.nodes.now bodies.now.reads.symbols.now bodies.now.reads.regions.now how) bodies.now.statements.now bodies.now.blocks.now facts at.tally.left ws.old out.old at result ws.new out.new }
 {
     if facts.blocks == 0 {
         return Walked {

@@ -18,9 +18,6 @@ flag_most : (b : Bool) → flag_of b ≤ 1
 flag_most true = omega arith
 flag_most false = omega arith
 
-pub byte_most : (b : Bool) → bool_byte b ≤ 1
-byte_most b = omega (arith, flag_written b, flag_most b)
-
 pub code_small : (t : Ty) → Coded t → code_of t < 256
 unfolding code_of
 code_small t h = omega (arith, flag_most t.signed, h.most)
@@ -45,6 +42,13 @@ some_code (suc c) h = refl
 pub no_code : (c : ℕ) → c ≡ 0 → type_if_code c ≡ None
 unfolding type_if_code
 no_code c h = ap type_if_code h
+
+-- a code read
+pub coded_none : (n c : ℕ) → c ≡ n → c ≡ 0 → None ≡ type_if_code n
+coded_none n c e z = sym (no_code n (sym e ∙ z))
+
+pub coded_some : (n c : ℕ) (t : Ty) → c ≡ n → (c ≡ 0 → ⊥) → t ≡ type_of_code c → Some t ≡ type_if_code n
+coded_some n c t e z p = ap Some p ∙ sym (some_code c z) ∙ ap type_if_code e
 
 pub if_small : (o : Option Ty) → CodedIf o → code_if o < 256
 unfolding code_if

@@ -1,7 +1,7 @@
 -- The tables of a workspace: read, and after a code is put. What changes as a routine runs stands before them. Assumes nothing.
 use mathlib.Core.Path.{◌≡◌, sym, ap, ap₂, ◌∙◌}
 use mathlib.Core.List.{List, [], ◌∷◌}
-use Rattle.std.specs.Prelude.{Option, None, Some}
+use Rattle.std.specs.Prelude.{Option, Some}
 use Prim.Native.Nat.{ℕ, ◌+◌, ◌*◌, ◌%◌, ◌≤◌, ◌<◌}
 use native.Mathlib.Nat.{zero-add, add-zero}
 use native.Mathlib.Numerals.{add-one}
@@ -18,7 +18,7 @@ use Rattle.workspace.specs.Types.{type_limit, code_of, code_if, type_of_code, ty
 use Rattle.workspace.specs.View.{view}
 use Rattle.workspace.specs.Post.{Kept, SameIndexes, Declares, PutsType}
 use Rattle.workspace.proofs.PartLaws.{part_front, part_sets, part_below, take_sets_in, number_part, number_stored, number_below}
-use Rattle.workspace.proofs.CodeLaws.{code_small, code_back, if_small, if_back, some_code, no_code}
+use Rattle.workspace.proofs.CodeLaws.{code_small, code_back, if_small, if_back}
 
 -- ---- what stands before the tables
 
@@ -49,13 +49,9 @@ module _ (w : List ℕ) where
   unfolding types_part
   types_number d h = number_part (tables w) types_place types_size d 1 (omega arith) ∙ table_number (types_place + d) 1 (omega arith)
 
-  pub reads_undeclared : (x c : ℕ) → x < name_limit → c ≡ number_at w (tables_place + x) 1 → c ≡ 0 → None ≡ declared_at (tables w) x
+  pub reads_declared : (x : ℕ) (r : Option Ty) → x < name_limit → r ≡ type_if_code (number_at w (tables_place + x) 1) → r ≡ declared_at (tables w) x
   unfolding declared_at
-  reads_undeclared x c h e z = sym (no_code (number_at (declared_part (tables w)) x 1) (declared_number x h ∙ sym e ∙ z))
-
-  pub reads_declared : (x c : ℕ) (t : Ty) → x < name_limit → c ≡ number_at w (tables_place + x) 1 → (c ≡ 0 → ⊥) → t ≡ type_of_code c → Some t ≡ declared_at (tables w) x
-  unfolding declared_at
-  reads_declared x c t h e z p = sym (ap type_if_code (declared_number x h ∙ sym e) ∙ some_code c z ∙ ap (λ (u : Ty). Some u) (sym p))
+  reads_declared x r h e = e ∙ sym (ap type_if_code (declared_number x h))
 
   pub reads_type : (i c : ℕ) (t : Ty) → i < type_limit → c ≡ number_at w (tables_place + types_place + i * 2) 1 → t ≡ type_of_code c → t ≡ type_at (tables w) i
   unfolding type_at
@@ -63,18 +59,11 @@ module _ (w : List ℕ) where
       let k : tables_place + (types_place + i * 2) ≡ tables_place + types_place + i * 2 = omega arith in
       p ∙ ap type_of_code (e ∙ sym (types_number (i * 2) (omega arith) ∙ ap (λ (j : ℕ). number_at w j 1) k))
 
-  pointee_number : (i c : ℕ) → i < type_limit → c ≡ number_at w (tables_place + types_place + i * 2 + 1) 1 → number_at (types_part (tables w)) (i * 2 + 1) 1 ≡ c
-  pointee_number i c h e =
+  pub reads_pointee : (i : ℕ) (r : Option Ty) → i < type_limit → r ≡ type_if_code (number_at w (tables_place + types_place + i * 2 + 1) 1) → r ≡ pointee_at (tables w) i
+  unfolding pointee_at
+  reads_pointee i r h e =
       let k : tables_place + (types_place + (i * 2 + 1)) ≡ tables_place + types_place + i * 2 + 1 = omega arith in
-      types_number (i * 2 + 1) (omega arith) ∙ ap (λ (j : ℕ). number_at w j 1) k ∙ sym e
-
-  pub reads_no_pointer : (i c : ℕ) → i < type_limit → c ≡ number_at w (tables_place + types_place + i * 2 + 1) 1 → c ≡ 0 → None ≡ pointee_at (tables w) i
-  unfolding pointee_at
-  reads_no_pointer i c h e z = sym (no_code (number_at (types_part (tables w)) (i * 2 + 1) 1) (pointee_number i c h e ∙ z))
-
-  pub reads_pointee : (i c : ℕ) (t : Ty) → i < type_limit → c ≡ number_at w (tables_place + types_place + i * 2 + 1) 1 → (c ≡ 0 → ⊥) → t ≡ type_of_code c → Some t ≡ pointee_at (tables w) i
-  unfolding pointee_at
-  reads_pointee i c t h e z p = sym (ap type_if_code (pointee_number i c h e) ∙ some_code c z ∙ ap Some (sym p))
+      e ∙ sym (ap type_if_code (types_number (i * 2 + 1) (omega arith) ∙ ap (λ (j : ℕ). number_at w j 1) k))
 
 -- ---- a code put in the tables t
 

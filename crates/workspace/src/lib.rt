@@ -1,6 +1,9 @@
 // The lent workspace while a routine runs: what is written to memory, the variables, the pending note, the registers, tables made once at the start, and
 // questions.
-// The functions take the whole workspace, and their contracts speak of what its bytes stand for.
+// The functions take the whole workspace, and their contracts speak of what its bytes stand for. Each asks in a clause that they are enough: a struct that holds
+// the bytes and the fact was tried. It has to promise at each function that it still holds the same bytes, its clauses are no shorter, and where words are
+// written in a row its place is read again before each (19 instructions in place of 10 for nine words).
+// `stored`, how many entries of memory there are, is beside it: the entries are in a fixed place with room for more, so that no length tells.
 #![tactic(auto)]
 
 ghost use Rattle.std.specs.Prelude.{◌≡◌, ◌++◌, ◌*◌, ◌≤◌, length, drop};
@@ -56,7 +59,9 @@ pub fn store_number(
     memory::store_number(&mut ws[0..FRAME], stored, address, number, bytes)
 }
 
-// The number of the bytes from an address on, those stored or else the image's, if each is there.
+// The number of the bytes from an address on, those stored or else the image's, if each is there. (Like `store_number` in form alone: each lends the
+// memory to the function of its name, one to write to and one to read.)
+#[tactic(auto, unfolding(crate::specs::Parts::memory_part, crate::specs::View::view))]
 pub fn load_number(
     ws: &[u8],
     stored: usize,
@@ -72,6 +77,7 @@ pub fn load_number(
 }
 
 // The Memory body of a record, at the front of out.
+#[tactic(auto, unfolding(crate::specs::Parts::memory_part, crate::specs::View::view))]
 pub fn copy_memory(ws: &[u8], stored: usize, out: &mut [u8])
     requires fit { Fit ws.now stored }
     requires entries_fit { stored * entry_size ≤ length out.old }

@@ -12,6 +12,7 @@ const COUNT: usize = NOTE + 1;
 const NAMES: usize = NOTE + 3;
 
 // Whether there is a note.
+#[tactic(auto, using(crate::proofs::NoteLaws::reads_noted))]
 pub fn has_note(ws: &[u8]) -> bool
     requires { workspace_size ≤ length ws.now }
     ensures { result ≡ noted (pending_in (note_part ws.now)) }
@@ -47,6 +48,7 @@ pub fn add_name(ws: &mut [u8], x: usize)
 }
 
 // How many names the note has.
+#[tactic(auto, using(crate::proofs::NoteLaws::counts_none, crate::proofs::NoteLaws::counts_names))]
 pub fn name_count(ws: &[u8]) -> usize
     requires { workspace_size ≤ length ws.now }
     ensures { result ≡ length (taken (pending_in (note_part ws.now))) }

@@ -11,6 +11,7 @@ use value::encoding::{get_val, put_val};
 // Where the values stand, behind the words.
 const VALUES: usize = REGISTERS + 112;
 
+#[tactic(auto, using(crate::proofs::RegisterLaws::word_read))]
 pub fn word(ws: &[u8], k: usize) -> u64
     requires { (workspace_size ≤ length ws.now) × (k < word_count) }
     ensures { result ≡ word_at (registers_part ws.now) k }
@@ -25,6 +26,7 @@ pub fn set_word(ws: &mut [u8], k: usize, x: u64)
     layout::put::<8>(ws, REGISTERS + k * 8, x);
 }
 
+#[tactic(auto, using(crate::proofs::RegisterLaws::value_read))]
 pub fn value(ws: &[u8], k: usize) -> Val
     requires { (workspace_size ≤ length ws.now) × (k < 2) }
     ensures { result ≡ value_at (registers_part ws.now) k }

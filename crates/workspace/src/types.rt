@@ -1,8 +1,9 @@
 // The types of declared names and of the routine's type table, each as a code of one byte: 0 for none, else the width in bytes twice, and 1 for a sign.
 ghost use Rattle.std.specs.Prelude.{◌≡◌, ◌<◌, ◌≤◌, length};
+ghost use Rattle.layout.specs.Number.{number_at};
 ghost use Rattle.workspace.specs.Parts.{workspace_size, tables};
 ghost use Rattle.workspace.specs.Variables.{name_limit};
-ghost use Rattle.workspace.specs.Types.{type_limit, code_of, code_if, type_of_code, declared_at, type_at, pointee_at, Coded, CodedIf};
+ghost use Rattle.workspace.specs.Types.{type_limit, code_of, code_if, type_of_code, type_if_code, declared_at, type_at, pointee_at, Coded, CodedIf};
 ghost use Rattle.workspace.specs.Post.{Declares, PutsType};
 
 use super::{DECLARED, TYPES};
@@ -23,6 +24,7 @@ fn decoded(code: u64) -> Ty
     Ty::new((code / 2 * 8) as u32, code % 2 != 0)
 }
 
+#[tactic(auto, using(crate::proofs::CodeLaws::pointed_code, crate::proofs::CodeLaws::unpointed_code))]
 fn pointee_code(pointee: Option<Ty>) -> u64
     requires { CodedIf pointee }
     ensures { result ≡ code_if pointee }
@@ -33,19 +35,28 @@ fn pointee_code(pointee: Option<Ty>) -> u64
     }
 }
 
-// The type that a name is declared with, if it is declared.
-pub fn declared(ws: &[u8], x: usize) -> Option<Ty>
-    requires { (workspace_size ≤ length ws.now) × (x < name_limit) }
-    ensures { result ≡ declared_at (tables ws.now) x }
+// The type whose code is at a place, if there is one.
+fn typed_at(ws: &[u8], at: usize) -> Option<Ty>
+    requires { at < length ws.now }
+    ensures { result ≡ type_if_code (number_at ws.now at 1) }
 {
-    let code = layout::get::<1>(ws, DECLARED + x);
+    let code = layout::get::<1>(ws, at);
     if code == 0 {
         return None;
     }
     Some(decoded(code))
 }
 
+// The type that a name is declared with, if it is declared.
+pub fn declared(ws: &[u8], x: usize) -> Option<Ty>
+    requires { (workspace_size ≤ length ws.now) × (x < name_limit) }
+    ensures { result ≡ declared_at (tables ws.now) x }
+{
+    typed_at(ws, DECLARED + x)
+}
+
 // A type of the type table.
+#[tactic(auto, using(crate::proofs::TableLaws::reads_type))]
 pub fn type_of(ws: &[u8], i: usize) -> Ty
     requires { (workspace_size ≤ length ws.now) × (i < type_limit) }
     ensures { result ≡ type_at (tables ws.now) i }
@@ -58,11 +69,7 @@ pub fn pointee(ws: &[u8], i: usize) -> Option<Ty>
     requires { (workspace_size ≤ length ws.now) × (i < type_limit) }
     ensures { result ≡ pointee_at (tables ws.now) i }
 {
-    let code = layout::get::<1>(ws, TYPES + i * 2 + 1);
-    if code == 0 {
-        return None;
-    }
-    Some(decoded(code))
+    typed_at(ws, TYPES + i * 2 + 1)
 }
 
 pub fn declare(ws: &mut [u8], x: usize, ty: Ty)

@@ -22,6 +22,7 @@ const SLOT: usize = 16;
 const VARIABLE: usize = 16;
 
 // The variable of a name, if it is set.
+#[tactic(auto, using(crate::proofs::FrameLaws::reads_unset, crate::proofs::FrameLaws::reads_set))]
 pub fn variable(ws: &[u8], x: usize) -> Option<Val>
     requires { (workspace_size ≤ length ws.now) × (x < name_limit) }
     ensures { result ≡ find x (variables_in (frame_part ws.now)) }
@@ -43,6 +44,7 @@ pub fn set_variable(ws: &mut [u8], x: usize, v: Val)
 }
 
 // How many variables of a name are set: one or none.
+#[tactic(auto, using(crate::proofs::CopyLaws::one_set, crate::proofs::CopyLaws::none_set))]
 fn one_if_set(ws: &[u8], x: usize) -> usize
     requires { (workspace_size ≤ length ws.now) × (x < name_limit) }
     ensures { (result ≡ length (variable_at (frame_part ws.now) x)) × (result ≤ 1) }
@@ -54,6 +56,7 @@ fn one_if_set(ws: &[u8], x: usize) -> usize
 }
 
 // How many variables are set.
+#[tactic(auto, using(crate::proofs::CopyLaws::count_start, crate::proofs::CopyLaws::count_more, crate::proofs::CopyLaws::count_done))]
 pub fn variable_count(ws: &[u8]) -> usize
     requires { workspace_size ≤ length ws.now }
     ensures { result ≡ length (variables_in (frame_part ws.now)) }
@@ -66,6 +69,7 @@ pub fn variable_count(ws: &[u8]) -> usize
 }
 
 // A variable in a record's bytes.
+#[tactic(auto, using(crate::proofs::CopyLaws::variable_put))]
 fn put_variable(out: &mut [u8], at: usize, x: usize, v: Val)
     requires { at + variable_size ≤ length out.old }
     ensures { out.new ≡ sets out.old at (variables_body ((x, v) ∷ [])) }

@@ -1,13 +1,7 @@
 use mathlib.Core.Path.{◌∙◌, sym}
 use native.Mathlib.Omega.{arith}
-use Rattle.files.specs.Refusal.{routine_refusal}
 use Rattle.files.proofs.TableLaws.{has_body}
-use Rattle.files.proofs.RefusalLaws.{exits}
 use Rattle.files.proofs.check_routine.Goals as goal
-
-pub returns-in_err-unless : goal.returns-in_err-unless
-unfolding routine_refusal
-returns-in_err-unless c = exits _ _ c.from_residual.ensures.1 ∙ simp (← c.check.ensures, c.in_err-unless.ensures.0, c.in_err-unless.ensures.1)
 
 pub body-names-requires : goal.body-names-requires
 body-names-requires c = has_body 6 _ (sym c.check.ensures ∙ c.in_ok-unless.ensures) 0 (omega arith)
@@ -26,8 +20,3 @@ body-statements-requires c = has_body 6 _ (sym c.check.ensures ∙ c.in_ok-unles
 
 pub body-blocks-requires : goal.body-blocks-requires
 body-blocks-requires c = has_body 6 _ (sym c.check.ensures ∙ c.in_ok-unless.ensures) 5 (omega arith)
-
-pub returns : goal.returns
-unfolding routine_refusal
-returns c =
-    c.check_bodies.ensures ∙ simp (← c.check.ensures, c.in_ok-unless.ensures, c.body-names.ensures, c.body-types.ensures, c.body-head.ensures, c.body-nodes.ensures, c.body-statements.ensures, c.body-blocks.ensures)

@@ -41,7 +41,7 @@ pub args-value-v-requires : goal.args-value-v-requires
 args-value-v-requires t c = ((arg_ready c.loop-i.invariant.0 c.loop-i-test.true c.evaluate.ensures.0 c.if-not-evaluate.false).ready.fit.room, omega arith)
 
 pub args-put_val-requires : goal.args-put_val-requires
-args-put_val-requires t c = record { k_bound = args_room c.loop-i.invariant.0 c.loop-i-test.true; vals_len = c.loop-i.invariant.0.long }
+args-put_val-requires t c = args_room c.loop-i.invariant.0 c.loop-i-test.true
 
 pub args-overflow_add-j : goal.args-overflow_add-j
 args-overflow_add-j t c = omega (arith, args_room c.loop-i.invariant.0 c.loop-i-test.true)
@@ -51,10 +51,9 @@ args-loop-i-smaller t c = args_less c.loop-i.invariant.0 c.loop-i-test.true c.ne
 
 pub args-loop-i-preserved : goal.args-loop-i-preserved
 args-loop-i-preserved t c = let l = c.loop-i.invariant in (
-  args_next l.0 c.loop-i-test.true c.evaluate.ensures.0 c.if-not-evaluate.false c.next-more.ensures c.value-v.ensures c.put_val.ensures c.put_val.auto.vals,
+  args_next l.0 c.loop-i-test.true c.evaluate.ensures.0 c.if-not-evaluate.false c.next-more.ensures c.value-v.ensures c.put_val.ensures,
   c.evaluate.auto.ws ∙ l.1,
   c.evaluate.auto.out ∙ l.2,
-  c.put_val.auto.vals ∙ l.3,
 )
 
 pub args-returns : goal.args-returns
@@ -124,7 +123,7 @@ pub assign_val-is-requires-2 : goal.assign_val-is-requires-2
 assign_val-is-requires-2 t c = search (rules, room)
 
 pub assign_val-write-requires : goal.assign_val-write-requires
-assign_val-write-requires t c = record { fit = search rules; symbols_read = search rules; fine = search rules; of_kind = of_kind c.is.ensures c.if-is.true }
+assign_val-write-requires t c = record { fit = search rules; symbols_read = search rules; var_at = record { fine = c.requires.fine; var = of_kind c.is.ensures c.if-is.true } }
 
 pub assign_val-returns-then-is : goal.assign_val-returns-then-is
 assign_val-returns-then-is t c = write_assigns c.value-v.ensures c.write.ensures
@@ -219,13 +218,13 @@ pub call-next-end-requires : goal.call-next-end-requires
 call-next-end-requires t c = search (rules, room)
 
 pub call-args-requires : goal.call-args-requires
-call-args-requires t c = (search (rules, second_falls), (search rules, (search (rules, call_args), search rules)))
+call-args-requires t c = (search (rules, second_falls), (search rules, search (rules, call_args)))
 
 pub call-returns-in_default : goal.call-returns-in_default
 call-returns-in_default t c = call_short c.requires.of_kind c.next-first.ensures c.next-end.ensures c.args-2.ensures c.in_default.is
 
 pub call-called-requires : goal.call-called-requires
-call-called-requires t c = record { workspace_long = (args_ready c.args-2.ensures c.in-Some.is (call_args c.requires.of_kind c.requires.fine c.next-first.ensures c.next-end.ensures) c.requires.ready_by.0).ready.fit.room; fine = c.requires.fine; of_kind = c.requires.of_kind; count_bound = omega (arith, (c.args-2.ensures.filled _ c.in-Some.is).1); vals_len = search rules }
+call-called-requires t c = record { workspace_long = (args_ready c.args-2.ensures c.in-Some.is (call_args c.requires.of_kind c.requires.fine c.next-first.ensures c.next-end.ensures) c.requires.ready_by.0).ready.fit.room; fine = c.requires.fine; of_kind = c.requires.of_kind; count_bound = omega (arith, (c.args-2.ensures.filled _ c.in-Some.is).1) }
 
 pub call-returns : goal.call-returns
 call-returns t c = call_evals c.requires.of_kind c.next-first.ensures c.next-end.ensures c.args-2.ensures c.in-Some.is c.called.ensures
@@ -240,7 +239,7 @@ pub cast-returns-then-not-operand : goal.cast-returns-then-not-operand
 cast-returns-then-not-operand t c = search (rules, cast_short)
 
 pub cast-cast-requires : goal.cast-cast-requires
-cast-cast-requires t c = search (rules, room, cast_type)
+cast-cast-requires t c = record { workspace_long = search (rules, room_after); typed = record { inside = room c.requires.fine; below = cast_type c.requires.of_kind c.requires.fine } }
 
 pub cast-returns : goal.cast-returns
 cast-returns t c = search (rules, cast_evals)
@@ -276,7 +275,7 @@ pub evaluate-constant-requires : goal.evaluate-constant-requires
 evaluate-constant-requires t c = record { workspace_long = search rules; node_inside = room c.requires.fine; n_bound = constant_width refl (found Constant (omega arith) c.in-Constant.ensures) c.requires.fine }
 
 pub evaluate-variable-requires : goal.evaluate-variable-requires
-evaluate-variable-requires t c = record { ready_in = search rules; fine = c.requires.fine; of_kind = found Var (omega arith) c.in-Var.ensures }
+evaluate-variable-requires t c = record { ready_in = search rules; var_at = record { fine = c.requires.fine; var = found Var (omega arith) c.in-Var.ensures } }
 
 pub evaluate-register-requires : goal.evaluate-register-requires
 evaluate-register-requires t c = search (rules, room)
@@ -461,7 +460,7 @@ pub store_fields-returns-then-not-evaluate : goal.store_fields-returns-then-not-
 store_fields-returns-then-not-evaluate t c = fields_stopped c.loop-i.invariant.0 c.loop-i-test.true c.evaluate.ensures.0 (ap not c.if-not-evaluate.true)
 
 pub store_fields-store_field-requires : goal.store_fields-store_field-requires
-store_fields-store_field-requires t c = record { fit = (ready_on c.evaluate.ensures.0 c.loop-i.invariant.0.ready (ap not c.if-not-evaluate.false) (field_kid c.loop-i-test.true c.loop-i.invariant.0.fine)).ready.fit; node_inside = field_room c.loop-i-test.true c.loop-i.invariant.0.fine; n_bound = field_type c.loop-i-test.true c.loop-i.invariant.0.fine }
+store_fields-store_field-requires t c = record { fit = (ready_on c.evaluate.ensures.0 c.loop-i.invariant.0.ready (ap not c.if-not-evaluate.false) (field_kid c.loop-i-test.true c.loop-i.invariant.0.fine)).ready.fit; typed = record { inside = field_room c.loop-i-test.true c.loop-i.invariant.0.fine; below = field_type c.loop-i-test.true c.loop-i.invariant.0.fine } }
 
 pub store_fields-returns-then-not-store_field : goal.store_fields-returns-then-not-store_field
 store_fields-returns-then-not-store_field t c = field_stopped c.loop-i.invariant.0 c.loop-i-test.true c.evaluate.ensures.0 (ap not c.if-not-evaluate.false) c.store_field.result c.store_field.ensures (ap not c.if-not-store_field.true)

@@ -61,7 +61,7 @@ abbrev pub decreases-ternary : goal.decreases-ternary
 decreases-ternary l = left l.reads.now.nodes.now l.n 0
 
 abbrev pub invariant-args-loop-i : goal.invariant-args-loop-i
-invariant-args-loop-i l = ArgsSoFar l.reads.nodes.now l.reads.symbols.now l.reads.regions.now l.n l.end l.initial.ws l.initial.out l.initial.vals l.i l.j l.ws l.out l.vals × (length l.ws ≡ length l.initial.ws) × (length l.out ≡ length l.initial.out) × (length l.vals ≡ length l.initial.vals)
+invariant-args-loop-i l = ArgsSoFar l.reads.nodes.now l.reads.symbols.now l.reads.regions.now l.n l.end l.initial.ws l.initial.out l.initial.vals l.i l.j l.ws l.out l.vals × (length l.ws ≡ length l.initial.ws) × (length l.out ≡ length l.initial.out)
 
 abbrev pub decreases-args-loop-i : goal.decreases-args-loop-i
 decreases-args-loop-i l = l.end - l.i

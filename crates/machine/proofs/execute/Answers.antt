@@ -23,4 +23,4 @@ pub noted-requires : goal.noted-requires
 noted-requires c = search (rules, room_after)
 
 pub returns : goal.returns
-returns c = gives_other refl (no_such c.is.ensures c.if-is.false) c.evaluate-ok.ensures.0 (c.noted.ensures ∙ numbered_noted c.kind.result (kind_of c.args.reads.nodes.now c.args.n) c.evaluate-ok.result c.evaluate-ok.new.ws c.kind.ensures)
+returns c = gives_other refl (no_such c.is.ensures c.if-is.false) c.evaluate-ok.ensures.0 (c.noted.ensures ∙ numbered_noted c.kind.result (kind_of c.args.reads.now.nodes.now c.args.n) c.evaluate-ok.result c.evaluate-ok.new.ws c.kind.ensures)

@@ -38,7 +38,7 @@ value-v-requires c = ((ready_on c.evaluate-2.ensures.0 c.requires.ready_by.0 (ap
 
 pub write_declared-requires : goal.write_declared-requires
 write_declared-requires c = let r = ready_on c.evaluate-2.ensures.0 c.requires.ready_by.0 (ap not c.if-not-evaluate.false) (assign_right c.requires.of_kind c.requires.fine c.next-right.ensures) in
-    record { workspace_long = r.ready.fit.room; fine = assign_left c.requires.of_kind c.requires.fine; of_kind = of_kind c.is.ensures c.if-not-is.false }
+    record { workspace_long = r.ready.fit.room; var_at = record { fine = assign_left c.requires.of_kind c.requires.fine; var = of_kind c.is.ensures c.if-not-is.false } }
 
 pub returns-then-write_declared : goal.returns-then-write_declared
 returns-then-write_declared c = let w = declared_written c.write_declared.ensures c.if-write_declared.true in
@@ -47,8 +47,8 @@ returns-then-write_declared c = let w = declared_written c.write_declared.ensure
 pub write_symbol-requires : goal.write_symbol-requires
 write_symbol-requires c = let r = ready_on c.evaluate-2.ensures.0 c.requires.ready_by.0 (ap not c.if-not-evaluate.false) (assign_right c.requires.of_kind c.requires.fine c.next-right.ensures) in
     let u = c.write_declared.ensures in
-    record { fit = undeclared_fit u c.if-write_declared.false r.ready.fit; symbols_read = undeclared_symbols u c.if-write_declared.false r.ready.symbols; fine = assign_left c.requires.of_kind c.requires.fine; of_kind = of_kind c.is.ensures c.if-not-is.false }
+    record { fit = undeclared_fit u c.if-write_declared.false r.ready.fit; symbols_read = undeclared_symbols u c.if-write_declared.false r.ready.symbols; var_at = record { fine = assign_left c.requires.of_kind c.requires.fine; var = of_kind c.is.ensures c.if-not-is.false } }
 
 pub returns : goal.returns
-returns c = let u = symbol_writes (assign_left c.requires.of_kind c.requires.fine) (of_kind c.is.ensures c.if-not-is.false) c.write_declared.ensures c.if-write_declared.false c.write_symbol.ensures in
+returns c = let u = symbol_writes (record { fine = assign_left c.requires.of_kind c.requires.fine; var = of_kind c.is.ensures c.if-not-is.false }) c.write_declared.ensures c.if-write_declared.false c.write_symbol.ensures in
     val_executes c.requires.of_kind c.next-right.ensures refl (no_such c.is-2.ensures c.if-is.false) c.evaluate-2.ensures.0 (ap not c.if-not-evaluate.false) (write_assigns c.value-v.ensures u)

@@ -1,10 +1,7 @@
 use Rattle.memory.specs.Entries.{entry_size}
-use Rattle.memory.proofs.MoveLaws.{lowered, lowered_more}
-use Rattle.std.proofs.Common.{◌≡◌, ℕ, ◌+◌, ◌*◌, List, get_or, set, refl, ap, ◌∙◌, arith, length-set}
+use Rattle.memory.proofs.MoveLaws.{lowered_more}
+use Rattle.std.proofs.Common.{ℕ, ◌+◌, ◌*◌, List, get_or, set, ap, ◌∙◌, arith, length-set}
 use Rattle.memory.proofs.down.Goals as goal
-
-pub loop-k-init : goal.loop-k-init
-loop-k-init g c = (refl, refl)
 
 pub loop-k-preserved : goal.loop-k-preserved
 loop-k-preserved g c = let l = c.loop-k in
@@ -12,8 +9,3 @@ loop-k-preserved g c = let l = c.loop-k in
       ap (λ (t : List ℕ). set t l.k (get_or t (l.k + by) 0)) l.invariant.0 ∙ lowered_more c.args.part.now by l.k (omega arith),
       length-set l.part l.k (get_or l.part (l.k + by) 0) ∙ l.invariant.1,
     )
-
-pub returns : goal.returns
-returns g c =
-    let e : c.loop-k.k ≡ c.args.n = omega arith in
-    c.loop-k.invariant.0 ∙ ap (lowered c.args.part.now (g.row.PLACES * entry_size)) e

@@ -1,13 +1,7 @@
-use Rattle.std.proofs.Common.{◌≡◌, ◌+◌, ◌-◌, ◌*◌, ◌%◌, refl, ◌∙◌, arith, length-set}
+use Rattle.std.proofs.Common.{◌+◌, ◌-◌, ◌*◌, ◌%◌, ◌∙◌, arith, length-set}
 use Rattle.memory.proofs.WriteLaws.{over_turn, over_none}
 use Rattle.memory.specs.Entries.{entry_size}
 use Rattle.memory.proofs.overwrite.Goals as goal
-
-pub loop-k-init : goal.loop-k-init
-loop-k-init c = let x = c.args in
-    let a : x.i + 0 ≡ x.i = omega arith in
-    let b : x.bytes - 0 ≡ x.bytes = omega arith in
-    (rw (a, b), refl)
 
 pub loop-k-preserved : goal.loop-k-preserved
 loop-k-preserved c = let l = c.loop-k in

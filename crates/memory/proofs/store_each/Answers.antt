@@ -1,14 +1,9 @@
 use Rattle.std.proofs.lemmas.Result.{err_from_is_err_and}
-use Rattle.std.proofs.Common.{◌≡◌, ◌+◌, ◌-◌, ◌%◌, ◌^◌, length, refl, ap, ◌∙◌, arith}
+use Rattle.std.proofs.Common.{◌≡◌, ◌+◌, ◌-◌, ◌%◌, ◌^◌, length, ap, ◌∙◌, arith}
 use Rattle.memory.proofs.RunLaws.{stored_full, stored_count, all_full, each_turn, each_full, each_none}
 use Rattle.memory.specs.Entries.{entries}
 use Rattle.memory.specs.Overlay.{store}
 use Rattle.memory.proofs.store_each.Goals as goal
-
-pub loop-i-init : goal.loop-i-init
-loop-i-init c = let a : c.args.address + 0 ≡ c.args.address = omega arith in
-    let b : c.args.bytes - 0 ≡ c.args.bytes = omega arith in
-    (c.requires, rw (a, b), refl)
 
 pub returns-in_err-n : goal.returns-in_err-n
 returns-in_err-n c = let l = c.loop-i in

@@ -1,6 +1,6 @@
 -- `set_facts` meets its contract. Assumes nothing.
 use Rattle.files.proofs.Accepted.{routine_body}
-use Rattle.setup.proofs.BodyFacts.{blocks_good, facts_blocks, facts_known}
+use Rattle.setup.proofs.BodyFacts.{blocks_good}
 use borrow.Author.Rules.{rules}
 use Rattle.setup.proofs.set_facts.Goals as goal
 
@@ -9,6 +9,3 @@ body-requires c = search (rules, routine_body)
 
 pub set_blocks-blocks-requires : goal.set_blocks-blocks-requires
 set_blocks-blocks-requires c = search (rules, blocks_good)
-
-pub returns : goal.returns
-returns c = search (rules, facts_blocks, facts_known)

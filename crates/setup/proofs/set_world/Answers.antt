@@ -1,6 +1,6 @@
 -- `set_world` meets its contract. Assumes nothing.
 use Rattle.files.proofs.Accepted.{routine_body, world_body}
-use Rattle.setup.proofs.BodyFacts.{names_good, names_short, symbols_good, regions_good, indexes_named}
+use Rattle.setup.proofs.BodyFacts.{names_good, names_short, symbols_good, regions_good}
 use borrow.Author.Rules.{rules}
 use Rattle.setup.proofs.set_world.Goals as goal
 
@@ -18,6 +18,3 @@ body-regions-requires c = search (rules, world_body)
 
 pub set_indexes-requires : goal.set_indexes-requires
 set_indexes-requires c = search (rules, names_good, names_short, symbols_good, regions_good)
-
-pub returns : goal.returns
-returns c = search (rules, indexes_named)

@@ -1,16 +1,15 @@
 use Rattle.walk.proofs.UnitLaws.{runs_statement, runs_nothing}
 use native.Mathlib.Omega.{arith}
-use borrow.Author.Rules.{rules}
 use Rattle.walk.proofs.run_at.Goals as goal
 
 pub overflow_add-place : goal.overflow_add-place
-overflow_add-place c = omega (arith, c.requires.roots_of.1 c.if-spot.true)
+overflow_add-place c = omega (arith, c.requires.roots_of.1 _ c.in_ok-k.was)
 
 pub statement-requires : goal.statement-requires
-statement-requires c = record { ready_in = c.requires.ready_in; has_statement = (c.requires.roots_of.1 c.if-spot.true, c.requires.roots_of.0) }
+statement-requires c = record { ready_in = c.requires.ready_in; has_statement = (c.requires.roots_of.1 _ c.in_ok-k.was, c.requires.roots_of.0) }
 
-pub returns-then-spot : goal.returns-then-spot
-returns-then-spot c = search (rules, runs_statement)
+pub returns-in_err-k : goal.returns-in_err-k
+returns-in_err-k c = rw c.from_residual.ensures (runs_nothing c.in_err-k.was c.requires.ready_in)
 
 pub returns : goal.returns
-returns c = search (rules, runs_nothing)
+returns c = runs_statement c.in_ok-k.was c.statement.ensures

@@ -1,14 +1,9 @@
 use mathlib.Core.Path.{refl, sym, ap}
 use native.Mathlib.Omega.{arith}
 use lib.Dec.{leb}
-use Rattle.files.specs.Blocks.{blocks_in}
 use Rattle.files.proofs.BoolLaws.{only_one}
 use Rattle.files.proofs.ItemLaws.{ends, refuses, goes_on, zero_none, some_length}
 use Rattle.files.proofs.blocks.check_blocks.Goals as goal
-
-pub loop-i-init : goal.loop-i-init
-unfolding blocks_in
-loop-i-init c = (refl, omega arith)
 
 pub returns-in_default : goal.returns-in_default
 returns-in_default c = ap (leb 1) (refuses _ _ _ _ _ c.loop-i.invariant.0 0 c.loop-i-test.true (sym (zero_none _ c.in_default.ensures.block)) refl)

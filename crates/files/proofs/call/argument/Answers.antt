@@ -1,20 +1,10 @@
 use mathlib.Core.Path.{sym, ◌∙◌}
 use Prim.Native.Nat.{◌-◌, ◌/◌}
 use native.Mathlib.Nat.{zero-add}
-use native.Mathlib.Omega.{arith}
 use lib.ListN.{length}
 use Rattle.files.specs.Call.{argument_at}
 use Rattle.files.proofs.ListedLaws.{length_listed, get_d_listed}
 use Rattle.files.proofs.call.argument.Goals as goal
-
-pub overflow_mul-i : goal.overflow_mul-i
-overflow_mul-i c = omega (arith, rw length_listed at c.requires)
-
-pub overflow_add-i : goal.overflow_add-i
-overflow_add-i c = omega (arith, rw length_listed at c.requires)
-
-pub get-requires-clause-inside : goal.get-requires-clause-inside
-get-requires-clause-inside c = omega (arith, rw length_listed at c.requires)
 
 pub returns : goal.returns
 returns c = let i = c.args.i in

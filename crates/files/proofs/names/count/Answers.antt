@@ -3,13 +3,8 @@ use Prim.Native.Nat.{◌+◌, ◌-◌}
 use native.Mathlib.Omega.{arith}
 use lib.ListN.{length}
 use Rattle.files.specs.Bytes.{one_less}
-use Rattle.files.specs.Names.{counted}
 use Rattle.files.proofs.ItemLaws.{ends, refuses, goes_on, some_less}
 use Rattle.files.proofs.names.count.Goals as goal
-
-pub loop-i-init : goal.loop-i-init
-unfolding counted
-loop-i-init c = record { counts = refl; prior = refl; within = omega arith; few = omega arith }
 
 pub returns-in_err-prior : goal.returns-in_err-prior
 returns-in_err-prior c =

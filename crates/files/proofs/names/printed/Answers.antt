@@ -1,10 +1,6 @@
-use mathlib.Core.Path.{refl}
 use borrow.Author.Rules.{rules}
 use Rattle.files.proofs.NameLaws.{printable_end, printable_on}
 use Rattle.files.proofs.names.printed.Goals as goal
-
-pub loop-x-init : goal.loop-x-init
-loop-x-init c = refl
 
 pub loop-x-preserved : goal.loop-x-preserved
 loop-x-preserved c = search (rules, printable_on)

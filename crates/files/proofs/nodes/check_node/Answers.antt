@@ -1,11 +1,7 @@
-use borrow.Author.Tests.{lt-ltb, le-ltb}
+use borrow.Author.Tests.{lt-ltb}
 use Rattle.files.specs.Nodes.{field_ok}
-use Rattle.files.proofs.KindLaws.{kind_there, no_kind, same_bound}
+use Rattle.files.proofs.KindLaws.{kind_there, same_bound}
 use Rattle.files.proofs.nodes.check_node.Goals as goal
-
-pub returns-in_default : goal.returns-in_default
-unfolding field_ok
-returns-in_default c = simp (← c.kind_number.ensures, le-ltb c.kind_number.result 20 (no_kind c.kind_number.result c.in_default.ensures))
 
 pub returns : goal.returns
 unfolding field_ok

@@ -1,4 +1,4 @@
-use Rattle.std.proofs.Common.{rules, arith, ℕ, ◌≡◌, ◌+◌, ◌-◌, ap, sym, ◌∙◌, refl, false, not, add-one}
+use Rattle.std.proofs.Common.{rules, arith, ℕ, ◌≡◌, ◌+◌, ◌-◌, ap, sym, ◌∙◌, refl, false, add-one}
 use Rattle.files.specs.Nodes.{kind_of, trees}
 use Rattle.files.specs.Rules.{parent_of}
 use Rattle.files.proofs.ItemLaws.{one_less_none, one_less_some, none_less, some_less}
@@ -19,7 +19,7 @@ returns-then-e-at t c = search (rules, none_less, trees_long)
 pub returns-then-not-is_placed : goal.returns-then-not-is_placed
 returns-then-not-is_placed t c =
     let k = kind_of c.args.b.now c.loop-at.at in
-    none_less _ (trees_odd _ _ _ _ _ _ _ c.loop-at.invariant.0 _ c.span-span.ensures.0 _ refl c.loop-at-test.true _ (placed_as k c.kind-kind.ensures _ _ c.is_placed.ensures) (ap not c.if-not-is_placed.true))
+    none_less _ (trees_odd _ _ _ _ _ _ _ c.loop-at.invariant.0 _ c.span-span.ensures.0 _ refl c.loop-at-test.true _ (placed_as k c.kind-kind.ensures _ _ c.is_placed.ensures) c.if-not-is_placed.true)
 
 pub returns-in_err-kids : goal.returns-in_err-kids
 returns-in_err-kids t c =
@@ -27,7 +27,7 @@ returns-in_err-kids t c =
     let k = kind_of b c.loop-at.at in
     let none = same_parent b (c.args.depth - 1) k (parent_of c.is_struct.result) (c.loop-at.at + 1) (c.loop-at.at + c.span-span.result) 0 (sym (parent_as k c.kind-kind.ensures c.is_struct.result c.is_struct.ensures)) ∙ one_less_none _ c.in_err-kids.ensures in
     rw c.from_residual.ensures
-    (none_less _ (trees_uncounted _ _ _ _ _ _ _ c.loop-at.invariant.0 _ c.span-span.ensures.0 _ refl c.loop-at-test.true c.requires.1 c.if-depth-lt1.false c.if-span-lt1.false c.if-e-at.false _ (placed_as k c.kind-kind.ensures _ _ c.is_placed.ensures) (ap not c.if-not-is_placed.false) 0 (sym none) false refl refl))
+    (none_less _ (trees_uncounted _ _ _ _ _ _ _ c.loop-at.invariant.0 _ c.span-span.ensures.0 _ refl c.loop-at-test.true c.requires.1 c.if-depth-lt1.false c.if-span-lt1.false c.if-e-at.false _ (placed_as k c.kind-kind.ensures _ _ c.is_placed.ensures) c.if-not-is_placed.false 0 (sym none) false refl refl))
 
 pub returns-then-not-is_counted : goal.returns-then-not-is_counted
 returns-then-not-is_counted t c =
@@ -38,7 +38,7 @@ returns-then-not-is_counted t c =
           rw (w.kids-is, add-one) (sym (one_less_some _ _ w.in_ok-kids.ensures)) ∙ same_parent b _ (parent_of w.is_struct.result) k _ _ _ (parent_as k c.kind-kind.ensures w.is_struct.result w.is_struct.ensures)
       | else-has_kids w ↦ no_kids _ _ _ _ _ _ w.if-has_kids.false (ap (λ (x : ℕ). x + 1) w.kids-is)
     ] in
-    none_less _ (trees_uncounted _ _ _ _ _ _ _ c.loop-at.invariant.0 _ c.span-span.ensures.0 _ refl c.loop-at-test.true c.requires.1 c.if-depth-lt1.false c.if-span-lt1.false c.if-e-at.false _ (placed_as k c.kind-kind.ensures _ _ c.is_placed.ensures) (ap not c.if-not-is_placed.false) _ kids _ (counted_as k c.kind-kind.ensures _ _ c.is_counted.ensures) (ap not c.if-not-is_counted.true))
+    none_less _ (trees_uncounted _ _ _ _ _ _ _ c.loop-at.invariant.0 _ c.span-span.ensures.0 _ refl c.loop-at-test.true c.requires.1 c.if-depth-lt1.false c.if-span-lt1.false c.if-e-at.false _ (placed_as k c.kind-kind.ensures _ _ c.is_placed.ensures) c.if-not-is_placed.false _ kids _ (counted_as k c.kind-kind.ensures _ _ c.is_counted.ensures) c.if-not-is_counted.true)
 
 pub loop-at-preserved : goal.loop-at-preserved
 loop-at-preserved t c =
@@ -49,7 +49,7 @@ loop-at-preserved t c =
           rw (w.kids-is, add-one) (sym (one_less_some _ _ w.in_ok-kids.ensures)) ∙ same_parent b _ (parent_of w.is_struct.result) k _ _ _ (parent_as k c.kind-kind.ensures w.is_struct.result w.is_struct.ensures)
       | else-has_kids w ↦ no_kids _ _ _ _ _ _ w.if-has_kids.false (ap (λ (x : ℕ). x + 1) w.kids-is)
     ] in
-    (trees_on _ _ _ _ _ _ _ c.loop-at.invariant.0 _ c.span-span.ensures.0 _ refl c.loop-at-test.true c.requires.1 c.if-depth-lt1.false c.if-span-lt1.false c.if-e-at.false _ (placed_as k c.kind-kind.ensures _ _ c.is_placed.ensures) (ap not c.if-not-is_placed.false) _ kids _ (counted_as k c.kind-kind.ensures _ _ c.is_counted.ensures) (ap not c.if-not-is_counted.false), omega arith)
+    (trees_on _ _ _ _ _ _ _ c.loop-at.invariant.0 _ c.span-span.ensures.0 _ refl c.loop-at-test.true c.requires.1 c.if-depth-lt1.false c.if-span-lt1.false c.if-e-at.false _ (placed_as k c.kind-kind.ensures _ _ c.is_placed.ensures) c.if-not-is_placed.false _ kids _ (counted_as k c.kind-kind.ensures _ _ c.is_counted.ensures) c.if-not-is_counted.false, omega arith)
 
 pub returns : goal.returns
 returns t c = search (rules, some_less, trees_end)

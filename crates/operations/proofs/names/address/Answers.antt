@@ -7,7 +7,7 @@ pub returns-then-not-is : goal.returns-then-not-is
 returns-then-not-is c = other_address _ _ _ _ refl (no_such c.is.ensures c.if-not-is.true) (search rules)
 
 pub returns-in-Some : goal.returns-in-Some
-returns-in-Some c = known_address _ _ _ _ refl (of_kind c.is.ensures c.if-not-is.false) c.ask_address.ensures _ c.in-Some.is c.known.ensures c.is-in-Some.ensures
+returns-in-Some c = known_address _ _ _ _ refl (of_kind c.is.ensures c.if-not-is.false) c.ask.ensures _ c.in-Some.is c.known.ensures c.is-in-Some.ensures
 
 pub returns-in-None : goal.returns-in-None
-returns-in-None c = unknown_address_lem _ _ _ _ refl (of_kind c.is.ensures c.if-not-is.false) c.ask_address.ensures c.in-None.is c.unknown-in-None.ensures
+returns-in-None c = unknown_address_lem _ _ _ _ refl (of_kind c.is.ensures c.if-not-is.false) c.ask.ensures c.in-None.is c.unknown-in-None.ensures

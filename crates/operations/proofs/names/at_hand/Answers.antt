@@ -9,7 +9,7 @@ pub constant_of-requires : goal.constant_of-requires
 constant_of-requires c = record { node_inside = room c.requires.fine; n_bound = constant_width refl (found Constant (omega arith) c.in-Constant.ensures) c.requires.fine }
 
 pub variable-requires : goal.variable-requires
-variable-requires c = search (rules, name_below c.requires.fine (found Var (omega arith) c.in-Var.ensures) c.reference.ensures.0)
+variable-requires c = search (rules, name_below (record { fine = c.requires.fine; var = found Var (omega arith) c.in-Var.ensures }) c.reference.ensures.0)
 
 pub returns-in-Constant : goal.returns-in-Constant
 returns-in-Constant c = constant_at_hand refl (found Constant (omega arith) c.in-Constant.ensures) (search rules)

@@ -2,4 +2,4 @@ use Rattle.operations.proofs.Answering.{tells_written}
 use Rattle.operations.proofs.results.written.Goals as goal
 
 pub returns : goal.returns
-returns c = tells_written c.from.ensures c.set_word.ensures c.set_word-2.ensures c.set_value.ensures
+returns c = tells_written c.tells.ensures c.set_value.ensures

@@ -3,8 +3,5 @@ use Rattle.setup.proofs.IndexParts.{indexes}
 use borrow.Author.Rules.{rules}
 use Rattle.setup.proofs.indexes.set_indexes.Goals as goal
 
-pub fill_symbols-requires : goal.fill_symbols-requires
-fill_symbols-requires c = (search rules, (search rules, (search rules, search rules)))
-
 pub returns : goal.returns
 returns c = search (rules, indexes)

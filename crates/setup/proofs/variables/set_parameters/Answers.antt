@@ -1,10 +1,13 @@
--- `set_parameters` meets its contract. The loop's invariant: the first k parameters are set. Assumes nothing.
-use Rattle.setup.proofs.SettingLaws.{start_none, start_more}
+-- `set_parameters` meets its contract. Assumes nothing.
+use mathlib.Core.Path.{subst}
+use Prim.Native.Nat.{ℕ}
+use Rattle.setup.specs.Post.{StartsSome}
+use Rattle.setup.proofs.EachLaws.{started_each, start_callable}
 use borrow.Author.Rules.{rules}
 use Rattle.setup.proofs.variables.set_parameters.Goals as goal
 
-pub loop-k-init : goal.loop-k-init
-loop-k-init c = search (rules, start_none)
+pub each-requires-clause-callable : goal.each-requires-clause-callable
+each-requires-clause-callable c = start_callable _ _ _ _ c.args.call.now (λ u v w l. search rules) _ c.requires.1 (λ u v h n p e. search rules)
 
-pub loop-k-preserved : goal.loop-k-preserved
-loop-k-preserved c = search (rules, start_more)
+pub returns : goal.returns
+returns c = subst (λ (n : ℕ). StartsSome c.args.head.bytes.now c.args.call.now n c.args.ws.now c.each.new.ws) c.parameter_count-count.ensures.0 (started_each _ _ _ _ _ (λ u v w l. search rules) _ _ c.each.ensures)

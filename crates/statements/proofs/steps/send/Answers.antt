@@ -1,4 +1,4 @@
-use Rattle.statements.proofs.StepLaws.{sent_on, pending_below, sent_own, sent_plain, sent_left, names_fit, names_none}
+use Rattle.statements.proofs.StepLaws.{sent_on, pending_below, sent_own, sent_plain, sent_left, names_fit}
 use Rattle.workspace.specs.Note.{pending_in, taken}
 use Rattle.workspace.specs.Parts.{note_part}
 use Rattle.statements.proofs.steps.send.Goals as goal
@@ -13,7 +13,4 @@ pub returns-else-has_note : goal.returns-else-has_note
 returns-else-has_note c = sent_on c.args.ws.now c.word-on.ensures (sent_plain c.args.site c.args.did _ (pending_in (note_part c.args.ws.now)) c.piece-s.ensures c.in-Nothing.is c.has_note.ensures c.if-has_note.false c.plain_step.ensures)
 
 pub returns-in_default : goal.returns-in_default
-returns-in_default c = sent_on c.args.ws.now c.word-on.ensures (sent_own c.args.site c.args.did _ (pending_in (note_part c.args.ws.now)) c.piece-s.ensures _ c.in_default.not-Nothing c.own_note.ensures c.step-in_default.ensures)
-
-pub step-requires-in_default : goal.step-requires-in_default
-step-requires-in_default c = names_none _ c.args.ws.now c.own_note.ensures c.requires.0
+returns-in_default c = sent_on c.args.ws.now c.word-on.ensures (sent_own c.args.site c.args.did _ (pending_in (note_part c.args.ws.now)) c.piece-s.ensures _ c.in_default.not-Nothing c.own_note.ensures c.noted_step.ensures)

@@ -1,12 +1,9 @@
 use Rattle.memory.specs.Overlay.{to_byte, find}
 use Rattle.memory.proofs.OverlayLaws.{rank_most}
-use Rattle.memory.proofs.LoadLaws.{one_or_none, next_byte, after, load_first, load_turn, load_stop, load_last}
+use Rattle.memory.proofs.LoadLaws.{one_or_none, next_byte, after, load_turn, load_stop, load_last}
 use Rattle.layout.specs.Number.{le}
 use Rattle.std.proofs.Common.{◌+◌, ◌-◌, ◌^◌, sym, ◌∙◌, add-one, arith}
 use Rattle.memory.proofs.row.Row.load_each.Goals as goal
-
-pub loop-i-init : goal.loop-i-init
-loop-i-init c = (c.requires.at_rank, omega arith, omega arith, load_first c.args.self.now (le c.args.image.count c.args.image.number) c.args.address c.args.bytes)
 
 pub returns-in_err-byte : goal.returns-in_err-byte
 returns-in_err-byte c = let l = c.loop-i in

@@ -1,16 +1,13 @@
-use borrow.Author.Rules.{rules}
-use Rattle.text.proofs.DigitLaws.{rest_less, counting, counting_more, counting_done}
+use mathlib.Core.Path.{ap, sym}
+use native.Mathlib.Omega.{arith}
+use lib.ListN.{length}
+use Rattle.text.proofs.DigitLaws.{digits_last, digits_count}
 use Rattle.text.proofs.numerals.Base.count.Goals as goal
 
-pub loop-rest-init : goal.loop-rest-init
-loop-rest-init c = counting _ _ (search rules)
+pub returns-then-number-eq0-clause-is : goal.returns-then-number-eq0-clause-is
+returns-then-number-eq0-clause-is c = sym (ap length (digits_last 63 c.args.self.of c.args.number (omega (arith, c.args.self.low, c.if-number-eq0.true))))
 
-pub loop-rest-smaller : goal.loop-rest-smaller
-loop-rest-smaller c = rest_less _ _ (search rules) (search rules)
-
-pub loop-rest-preserved : goal.loop-rest-preserved
-loop-rest-preserved c = counting_more c.loop-rest.invariant (search rules) (search rules)
-
-pub returns : goal.returns
-returns c = let d = counting_done c.loop-rest.invariant (search rules) in
-    record { is = d.0; some = d.1.0; most = d.1.1 }
+pub returns-else-number-eq0-clause-is : goal.returns-else-number-eq0-clause-is
+returns-else-number-eq0-clause-is c =
+    let ilog = c.ilog.ensures in
+    omega (arith, digits_count 64 c.args.self.of c.args.number c.ilog.result c.args.self.low ilog.power_le ilog.next_power_gt ilog.bound)
