@@ -1,3 +1,4 @@
 pub mod Running
 pub mod Shapes
 pub mod Keeping
+pub mod Reasons

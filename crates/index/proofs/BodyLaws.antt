@@ -1,10 +1,10 @@
 -- What a body holds, item by item, where the place of each item is known. Assumes nothing.
-use mathlib.Core.Path.{◌≡◌, refl, ap, ◌∙◌}
+use mathlib.Core.Path.{◌≡◌, refl, sym, ap, ◌∙◌}
 use mathlib.Core.List.{List, [], ◌∷◌}
 use Prim.Native.Nat.{ℕ, zero, suc, ◌+◌, ◌*◌, ◌%◌, ◌≤◌, ◌<◌}
 use native.Mathlib.Nat.{not-suc-le-zero}
 use native.Mathlib.Omega.{arith}
-use lib.ListN.{length, take, drop, get_or, drop_of_length-le}
+use lib.ListN.{length, take, drop, get_or, drop_of_length-le, length-drop}
 use lib.Seq.{drop-cons, drop-nil, drop-drop}
 use Rattle.layout.specs.Each.{Bytes}
 use Rattle.layout.specs.Format.{Format, number, reads, every, whole}
@@ -46,6 +46,32 @@ module _ {A : Type 0} (F : Format A) (b : List ℕ) (size : ℕ → ℕ) (moves 
 
   pub whole_at : (n k : ℕ) (d : A) → place_from size 0 n ≡ length b → k < n → get_or (whole F b) k d ≡ (F.read (drop (place_from size 0 k) b)).0
   whole_at n k d h g = items_at (length b) n 0 k h (few n h) g d
+
+  -- as many as there are, whatever bounds them
+  every_none : (f : ℕ) → every F f [] ≡ []
+  every_none zero = refl
+  every_none (suc f) = refl
+
+  items_same : (f g n i : ℕ) → place_from size i n ≡ length b → n ≤ f → n ≤ g → every F f (drop i b) ≡ every F g (drop i b)
+  unfolding place_from
+  items_same f g zero i h l m = rw (drop_of_length-le b {i = i} (omega arith)) (every_none f ∙ sym (every_none g))
+  items_same zero g (suc n) i h l m = absurd (not-suc-le-zero l)
+  items_same (suc f) zero (suc n) i h l m = absurd (not-suc-le-zero m)
+  items_same (suc f) (suc g) (suc n) i h l m =
+      step f i (begins n i h)
+      ∙ ap (λ (r : List A). (F.read (drop i b)).0 ∷ r) (items_same f g n (i + size i) h (omega arith) (omega arith))
+      ∙ sym (step g i (begins n i h))
+
+  rest_few : (n i : ℕ) → place_from size i n ≡ length b → n ≤ length (drop i b)
+  rest_few n i h = rw length-drop (omega (arith, h, place_least size 1 pos i n))
+
+  -- the items from a place on: the first of them, and those past it
+  pub whole_from : (n i : ℕ) → place_from size i (suc n) ≡ length b → whole F (drop i b) ≡ (F.read (drop i b)).0 ∷ whole F (drop (i + size i) b)
+  unfolding place_from
+  whole_from n i h =
+      let m = length (drop (i + size i) b) in
+      items_same (length (drop i b)) (suc m) (suc n) i h (rest_few (suc n) i h) (omega (arith, rest_few n (i + size i) h))
+      ∙ step m i (begins n i h)
 
 -- ---- bytes read one by one
 

@@ -3,6 +3,7 @@ pub mod ItemLaws
 pub mod BodyLaws
 pub mod EntryLaws
 pub mod TextPlaces
+pub mod TextRest
 pub mod TextIndex
 pub mod BlockPlaces
 pub mod BlockIndex

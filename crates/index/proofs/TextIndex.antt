@@ -1,8 +1,8 @@
 -- How the index of texts grows, and what it tells. Assumes nothing.
 use mathlib.Core.Path.{◌≡◌, refl, sym, ap, subst, ◌∙◌}
-use mathlib.Core.List.{List}
-use Prim.Native.Nat.{ℕ, ◌+◌, ◌-◌, ◌*◌, ◌≤◌, ◌<◌}
-use native.Mathlib.Nat.{le_antisymm, lt_of_not-le, le_of_suc-le-suc}
+use mathlib.Core.List.{List, [], ◌∷◌}
+use Prim.Native.Nat.{ℕ, suc, ◌+◌, ◌-◌, ◌*◌, ◌≤◌, ◌<◌}
+use native.Mathlib.Nat.{le_antisymm}
 use native.Mathlib.Omega.{arith}
 use mir.Syntax.{w8}
 use mir.Val.{Fits}
@@ -10,46 +10,69 @@ use lib.ListN.{length, take, drop, get_or, length-drop}
 use lib.Seq.{length-take-le}
 use Rattle.layout.specs.Number.{number_at, put_number}
 use Rattle.layout.proofs.StoreLaws.{each_byte}
+use Rattle.layout.specs.Each.{Bytes}
+use Rattle.files.specs.Program.{texts_in}
 use Rattle.index.specs.Places.{place_from, text_size}
 use Rattle.index.specs.Texts.{texts_room, text_count, Texts, TextsIndexed, TextAt}
-use Rattle.index.proofs.PlaceLaws.{place_order, place_mono, place_strict, place_next}
+use Rattle.index.proofs.PlaceLaws.{place_mono, place_next}
 use Rattle.index.proofs.EntryLaws.{Entries, length_put, entries_more}
-use Rattle.index.proofs.TextPlaces.{text_some, text_inside, text_bytes}
+use Rattle.index.proofs.TextPlaces.{text_inside, text_bytes}
+use Rattle.index.proofs.TextRest.{left_one, left_none}
 
--- the first texts are in the part, and the next one starts at a place
-pub record Filling (b part : List ℕ) (at count : ℕ) : Type 0 where
+-- the first texts are in the part, and the next one, of those that are left, starts at a place
+pub record Filling (b part rest : List ℕ) (at count : ℕ) : Type 0 where
   pub here : at ≡ place_from (text_size b) 0 count
   pub most : count ≤ text_count b
+  pub left : texts_in rest ≡ drop count (texts_in b)
   pub room : texts_room ≤ length part
   pub entries : Entries part (λ k. k * 2) (λ k x. x ≡ place_from (text_size b) 0 k) count
 
-module _ {b part : List ℕ} {at count : ℕ} (all : Texts b) (so : Filling b part at count) where
-  pub more_texts : at < length b → count < text_count b
-  more_texts h = place_order (text_size b) 0 count (text_count b) (omega (arith, so.here, all.full))
+text_long : (b : List ℕ) (k : ℕ) → Texts b → k < text_count b → Bytes b → length (get_or (texts_in b) k []) ≡ number_at b (place_from (text_size b) 0 k) 1
+text_long b k all h bytes =
+    let i = place_from (text_size b) 0 k in
+    ap length (text_bytes b all k h bytes) ∙ length-take-le (number_at b i 1) (drop (i + 1) b) (rw length-drop (omega (arith, text_inside b all k h)))
 
+module _ {b part rest : List ℕ} {at count : ℕ} (all : Texts b) (so : Filling b part rest at count) where
   -- a turn
-  pub text_filled : {part' : List ℕ} {n : ℕ} → at < length b → part' ≡ put_number part (count * 2) 2 at → n ≡ number_at b at 1
-      → Filling b part' (at + n + 1) (count + 1)
-  text_filled {n} h e g =
-      let l = more_texts h in
-      record {
-        here = ap (λ (m : ℕ). at + m + 1) g ∙ omega (arith, place_next (text_size b) 0 count, ap (λ (i : ℕ). i + text_size b i) so.here);
-        most = omega arith;
+  module _ {t : List ℕ} (rest' : List ℕ) (next : texts_in rest ≡ t ∷ texts_in rest') where
+    one_more : (count < text_count b) × (get_or (texts_in b) count [] ≡ t) × (drop (suc count) (texts_in b) ≡ texts_in rest')
+    unfolding text_count
+    one_more = left_one (texts_in b) count (sym so.left ∙ next)
+
+    pub texts_few : count < 512
+    texts_few = omega (arith, one_more.0, all.few)
+
+    module _ (bytes : (i : ℕ) → Fits w8 (get_or b i 0)) where
+      long : length t ≡ number_at b at 1
+      long = ap length (sym one_more.1) ∙ text_long b count all one_more.0 (each_byte b (λ i. (bytes i).fits)) ∙ ap (λ (i : ℕ). number_at b i 1) (sym so.here)
+
+      pub text_fits : at + length t + 1 < 65536
+      text_fits = omega (arith, long, text_inside b all count one_more.0, ap (λ (i : ℕ). i + text_size b i) so.here, all.short)
+
+      pub text_filled : {part' : List ℕ} → part' ≡ put_number part (count * 2) 2 at → Filling b part' rest' (at + (length t + 1)) (count + 1)
+      text_filled e = record {
+        here = omega (arith, long, place_next (text_size b) 0 count, ap (λ (i : ℕ). i + text_size b i) so.here);
+        most = omega (arith, one_more.0);
+        left = sym one_more.2 ∙ ap (λ (m : ℕ). drop m (texts_in b)) suc_is;
         room = omega (arith, ap length e ∙ length_put part (count * 2) 2 at, so.room);
         entries = subst (λ (s : List ℕ). Entries s (λ k. k * 2) (λ k x. x ≡ place_from (text_size b) 0 k) (count + 1)) (sym e)
             (entries_more part (λ k. k * 2) (λ k x. x ≡ place_from (text_size b) 0 k) count so.entries (count * 2) (λ k g. omega arith) at refl
-            (omega (arith, all.few, so.room)) (omega (arith, all.short)) so.here);
+            (omega (arith, texts_few, so.room)) (omega (arith, text_fits)) so.here);
       }
+        where
+          suc_is : suc count ≡ count + 1
+          suc_is = omega arith
 
   -- the end
-  pub texts_filled : length b ≤ at → (count ≡ text_count b) × TextsIndexed b part
+  pub texts_filled : texts_in rest ≡ [] → (count ≡ text_count b) × TextsIndexed b part
+  unfolding text_count
   texts_filled h =
-      let n : count ≡ text_count b = le_antisymm so.most (le_of_suc-le-suc (lt_of_not-le (λ l. omega (arith, place_strict (text_size b) (text_some b) 0 count (text_count b) l, all.full, so.here)))) in
+      let n : count ≡ text_count b = le_antisymm so.most (left_none (texts_in b) count (sym so.left ∙ h)).0 in
       (n, record { texts = all; room = omega (arith, all.few, so.room); at = rw n at so.entries })
 
-pub texts_none : {b part : List ℕ} → texts_room ≤ length part → Filling b part 0 0
+pub texts_none : {b part rest : List ℕ} → texts_room ≤ length part → texts_in rest ≡ texts_in b → Filling b part rest 0 0
 unfolding place_from
-texts_none room = record { here = refl; most = omega arith; room = room; entries = λ k h. absurd (omega arith) }
+texts_none room left = record { here = refl; most = omega arith; left = left; room = room; entries = λ k h. absurd (omega arith) }
 
 -- ---- a text that the index finds
 

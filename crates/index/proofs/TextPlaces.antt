@@ -29,13 +29,13 @@ use Rattle.index.proofs.BodyLaws.{whole_length, whole_at, reads_rest, reads_byte
 
 -- ---- the format of a text
 
-abbrev text_format : Format (List ℕ)
+abbrev pub text_format : Format (List ℕ)
 text_format = counted 1 (number 1)
 
 pub text_some : (b : List ℕ) (i : ℕ) → 1 ≤ text_size b i
 text_some b i = omega arith
 
-text_moves : (b : List ℕ) (i : ℕ) → (text_format.read (drop i b)).1 ≡ drop (i + text_size b i) b
+pub text_moves : (b : List ℕ) (i : ℕ) → (text_format.read (drop i b)).1 ≡ drop (i + text_size b i) b
 unfolding number_at
 text_moves b i =
     let n = num (take 1 (drop i b)) in

@@ -5,7 +5,7 @@ ghost use Rattle.files.specs.Names.{names_in};
 ghost use Rattle.index.specs.Places.{place_from, text_size};
 ghost use Rattle.index.specs.Symbols.{symbols_room, symbol_place, entry_of, Symbols, Standing, Passed, Sought, SymbolInside, SymbolsIndexed, AddressOf, SizeOf};
 
-use crate::texts::text_at;
+use crate::texts::{text_at, texts};
 use files::world::SYMBOL;
 use std::cmp::Ordering;
 
@@ -94,7 +94,7 @@ fn entry_of(found: Option<usize>) -> u64
     }
 }
 
-// The index of the routine's names: one merge of them with the symbols, whose names ascend as they do. (A loop by lengths, as `fill_texts`.)
+// The index of the routine's names: one merge of them with the symbols, whose names ascend as they do.
 pub fn fill_symbols(routine_names: &[u8], world_names: &[u8], symbols: &[u8], part: &mut [u8])
     requires { (1 ≤ names_in routine_names.now) × ((length routine_names.now < 65536) × ((Symbols world_names.now symbols.now) × (symbols_room ≤ length part.old))) }
     ensures { SymbolsIndexed routine_names.now world_names.now symbols.now part.new }
@@ -104,14 +104,9 @@ pub fn fill_symbols(routine_names: &[u8], world_names: &[u8], symbols: &[u8], pa
         name: 0,
         at: 0,
     };
-    let mut at = 0;
-    let mut count = 0;
-    while at < routine_names.len() {
-        let name = text_at(routine_names, at);
+    for (k, name) in texts(routine_names).enumerate() {
         let (next, found) = seek(world_names, symbols, cursor, name);
         cursor = next;
-        layout::put::<2>(part, count * 2, entry_of(found));
-        at = at + name.len() + 1;
-        count += 1;
+        layout::put::<2>(part, k * 2, entry_of(found));
     }
 }

@@ -1,5 +1,5 @@
 // The names or types of a body by number. The index: for each text, in two bytes, the place of its length byte.
-ghost use Rattle.std.specs.Prelude.{◌≡◌, [], ◌+◌, ◌≤◌, ◌<◌, length, get_or};
+ghost use Rattle.std.specs.Prelude.{◌≡◌, [], ℕ, ◌+◌, ◌≤◌, ◌<◌, length, get_or};
 ghost use Rattle.files.specs.Program.{texts_in};
 ghost use Rattle.index.specs.Texts.{texts_room, text_count, Texts, TextsIndexed, TextAt};
 ghost use Rattle.index.specs.Places.{text_size};
@@ -7,16 +7,16 @@ ghost use Rattle.index.specs.Places.{text_size};
 // The bytes of the index of a body: at most 512 texts.
 pub const TEXTS: usize = 1024;
 
-// The index of a body's texts, and how many there are. (A loop by lengths: where the next text is only a text's own length says.)
+// The index of a body's texts, and how many there are.
 pub fn fill_texts(body: &[u8], part: &mut [u8]) -> usize
     requires { (Texts body.now) × (texts_room ≤ length part.old) }
     ensures { (result ≡ text_count body.now) × (TextsIndexed body.now part.new) }
 {
     let mut at = 0;
     let mut count = 0;
-    while at < body.len() {
+    for text in texts(body) {
         layout::put::<2>(part, count * 2, at as u64);
-        at = at + layout::get::<1>(body, at) as usize + 1;
+        at += text.len() + 1;
         count += 1;
     }
     count
@@ -39,4 +39,38 @@ pub fn text<'a, 'b>(body: &'a [u8], part: &'b [u8], k: usize) -> &'a [u8]
 {
     let at = layout::get::<2>(part, k * 2) as usize;
     text_at(body, at)
+}
+
+// The texts of a body, one after another: those not given yet fill what is left of it.
+#[derive(Clone, Copy)]
+pub struct TextsOf<'a> {
+    rest: &'a [u8],
+    ghost filled: { Texts rest.now },
+    ghost bytes: { (i : ℕ) → get_or rest.now i 0 < 256 },
+}
+
+impl<'a> Iterator for TextsOf<'a> {
+    ghost use Rattle.std.specs.Iterator.{YieldsFirstRef, item_count};
+
+    type Item = &'a [u8];
+
+    ghost next_gives = { YieldsFirstRef (λ s. texts_in s.rest.now) };
+
+    ghost remaining = { item_count (λ s. texts_in s.rest.now) };
+
+    #[tactic(auto, using(crate::proofs::TextRest::first_inside, crate::proofs::TextRest::first_text, crate::proofs::TextRest::rest_texts_lem, crate::proofs::TextRest::rest_bytes))]
+    fn next(&mut self) -> Option<&'a [u8]> {
+        let (size, texts) = self.rest.split_first()?;
+        let (text, rest) = texts.split_at(usize::from(*size));
+        self.rest = rest;
+        Some(text)
+    }
+}
+
+// The texts of a body, from the first on.
+pub fn texts(body: &[u8]) -> TextsOf<'_>
+    requires { Texts body.now }
+    ensures { texts_in result.rest.now ≡ texts_in body.now }
+{
+    TextsOf { rest: body }
 }

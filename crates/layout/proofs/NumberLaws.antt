@@ -2,16 +2,16 @@
 use mathlib.Core.Path.{◌≡◌, refl, sym, ap, ap₂, ◌∙◌}
 use mathlib.Core.List.{List, [], ◌∷◌, ◌++◌}
 use Prim.Native.Nat.{ℕ, zero, suc, ◌+◌, ◌*◌, ◌/◌, ◌%◌, ◌^◌, ◌≤◌, ◌<◌}
-use native.Mathlib.Nat.{pow-suc, pow-zero, div-lt_iff_lt-mul, div-div-eq-div-mul, div-one, mul_comm, mul_assoc, le_trans, pow-le-pow_right}
+use native.Mathlib.Nat.{pow-suc, pow-zero, div-lt_iff_lt-mul, div-div-eq-div-mul, div-one, mul_comm, mul_assoc, suc-add, zero-add, le_trans, pow-le-pow_right}
 use native.Mathlib.Omega.{arith}
 use lib.Dec.{lit<}
-use lib.ListN.{length, take, drop, replicate, get_or, length-take}
+use lib.ListN.{length, take, drop, replicate, get_or, length-take, length-drop}
 use Rattle.std.specs.Int.{byte_at, byte_worth, bytes_low_first, sum_through}
 use Rattle.std.specs.List.{slice_index}
-use lib.Seq.{take-suc, drop-cons, length-take-le}
+use lib.Seq.{take-suc, take-add, drop-drop, drop-cons, sets, length-take-le}
 use Rattle.layout.specs.Each.{Bytes}
-use Rattle.layout.specs.Number.{le, num, number_at}
-use Rattle.layout.proofs.StoreLaws.{byte_of}
+use Rattle.layout.specs.Number.{le, num, number_at, put_number}
+use Rattle.layout.proofs.StoreLaws.{byte_of, sets_append}
 
 pub length_le : (k n : ℕ) → length (le k n) ≡ k
 length_le zero n = refl
@@ -27,12 +27,27 @@ pub num_lt : (bs : List ℕ) → num bs < 256 ^ length bs
 num_lt [] = rw pow-zero (lit< tt)
 num_lt (b ∷ bs) = rw pow-suc (omega (arith, num_lt bs))
 
+-- a number in j + k bytes is its low j bytes, then the others
+pub le_add : (j k n : ℕ) → le (j + k) n ≡ le j n ++ le k (n / 256 ^ j)
+le_add zero k n = rw (zero-add, pow-zero, div-one)
+le_add (suc j) k n =
+    rw suc-add
+    (ap (λ (l : List ℕ). n % 256 ∷ l)
+    (le_add j k (n / 256) ∙ ap (λ (x : ℕ). le j (n / 256) ++ le k x) (div-div-eq-div-mul n 256 (256 ^ j) ∙ ap (λ (x : ℕ). n / x) (mul_comm 256 (256 ^ j) ∙ sym (pow-suc 256 j)))))
+
 pub num_append : (xs ys : List ℕ) → num (xs ++ ys) ≡ num xs + 256 ^ length xs * num ys
 num_append [] ys = rw (pow-zero) (omega arith)
 num_append (x ∷ xs) ys =
     let e : 256 ^ suc (length xs) * num ys ≡ 256 * (256 ^ length xs * num ys) =
     ap (λ (q : ℕ). q * num ys) (pow-suc 256 (length xs) ∙ mul_comm (256 ^ length xs) 256) ∙ mul_assoc 256 (256 ^ length xs) (num ys) in
     omega (arith, e, num_append xs ys)
+
+-- the number of j + k bytes, of its two parts
+pub number_at_add : (s : List ℕ) (i j k : ℕ) → i + j ≤ length s → number_at s i (j + k) ≡ number_at s i j + 256 ^ j * number_at s (i + j) k
+unfolding number_at
+number_at_add s i j k h =
+    let e : length (take j (drop i s)) ≡ j = length-take-le j (drop i s) (rw length-drop (omega arith)) in
+    rw (take-add, num_append, e, drop-drop)
 
 -- one byte
 pub number_at_one : (s : List ℕ) (i : ℕ) → i < length s → get_or s i 0 < 256 → number_at s i 1 ≡ get_or s i 0
@@ -93,3 +108,14 @@ pub take_le : (j k n : ℕ) → j ≤ k → take j (le k n) ≡ le j n
 take_le zero k n h = refl
 take_le (suc j) zero n h = absurd (omega arith)
 take_le (suc j) (suc k) n h = ap (λ (l : List ℕ). n % 256 ∷ l) (take_le j k (n / 256) (omega arith))
+
+-- a number read, and one stored, in two parts
+pub get_parts : (j k : ℕ) (s : List ℕ) (i a b : ℕ) → i + j ≤ length s → a ≡ number_at s i j → b ≡ number_at s (i + j) k → a + 256 ^ j * b ≡ number_at s i (j + k)
+get_parts j k s i a b h p q =
+    ap (λ (x : ℕ). x + 256 ^ j * b) p ∙ ap (λ (x : ℕ). number_at s i j + 256 ^ j * x) q ∙ sym (number_at_add s i j k h)
+
+pub put_parts : (j k : ℕ) (s t u : List ℕ) (i v : ℕ) → t ≡ put_number s i j v → u ≡ put_number t (i + j) k (v / 256 ^ j) → u ≡ put_number s i (j + k) v
+unfolding put_number
+put_parts j k s t u i v p q =
+    let e : sets s i (le (j + k) v) ≡ sets (sets s i (le j v)) (i + j) (le k (v / 256 ^ j)) = rw (le_add, sets_append, length_le) in
+    q ∙ ap (λ (l : List ℕ). sets l (i + j) (le k (v / 256 ^ j))) p ∙ sym e

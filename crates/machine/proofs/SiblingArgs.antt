@@ -3,7 +3,7 @@ use mathlib.Core.Path.{◌≡◌, refl, sym, ap, ◌∙◌, subst}
 use mathlib.Core.Bool.{Bool, true, false}
 use mathlib.Core.List.{List}
 use Rattle.std.specs.Prelude.{Option, None, Some}
-use Prim.Native.Nat.{ℕ, ◌+◌, ◌-◌, ◌*◌, ◌≤◌, ◌<◌}
+use Prim.Native.Nat.{ℕ, ◌+◌, ◌*◌, ◌≤◌, ◌<◌}
 use native.Mathlib.Nat.{le_refl}
 use native.Mathlib.Omega.{arith}
 use lib.ListN.{length}
@@ -22,7 +22,7 @@ use Rattle.operations.specs.Taking.{PutsVal}
 use Rattle.hosting.proofs.Shapes.{arg_here, args_more, args_few}
 use Rattle.operations.proofs.Going.{told, ready_after, by_true}
 use Rattle.machine.proofs.Ranks.{next_past}
-use Rattle.machine.proofs.Siblings.{kid_before}
+use Rattle.machine.proofs.Siblings.{kid_within}
 use Rattle.machine.proofs.Calling.{more, args_end, args_evals, args_short, args_told, more_none, more_one}
 
 -- the arguments from node n up to node e: the loop is at node i, whose value is value j, with these bytes
@@ -37,13 +37,10 @@ pub args_start : {b s r : List ℕ} {n e : ℕ} {w o vals : List ℕ} → ReadyI
 args_start p f l = record { past = le_refl _; ready = p; fine = f; long = l; rest = λ p x. args_told (sym (more_none p)) x }
 
 module _ {b s r : List ℕ} {n e : ℕ} {w₀ o₀ vals₀ : List ℕ} {i j : ℕ} {w o vals : List ℕ} (so : ArgsSoFar b s r n e w₀ o₀ vals₀ i j w o vals) where
-  pub args_done : i ≡ e → EvaluatesArgs b s r n e 0 w₀ o₀ (Some j) vals₀ vals w o
-  args_done z = args_told (ap (λ (c : ℕ). Some c) (omega arith)) (so.rest (Some 0) (args_end z so.fine))
+  pub args_done : e ≤ i → EvaluatesArgs b s r n e 0 w₀ o₀ (Some j) vals₀ vals w o
+  args_done z = args_told (ap (λ (c : ℕ). Some c) (omega arith)) (so.rest (Some 0) (args_end (omega (arith, z, kid_within so.fine.spells)) so.fine))
 
   module _ (ne : i ≡ e → ⊥) where
-    pub args_less : {m : ℕ} → m ≡ next b i → e - m < e - i
-    args_less p = omega (arith, kid_before so.fine.spells ne, next_past (arg_here ne so.fine) p)
-
     pub args_room : j < 16
     args_room = args_few ne so.fine
 

@@ -1,8 +1,8 @@
 -- How far a loop over fields side by side has come: what is still to be done gives the whole. Assumes nothing.
-use mathlib.Core.Path.{◌≡◌, refl}
+use mathlib.Core.Path.{◌≡◌}
 use mathlib.Core.Bool.{Bool, true, false, not}
 use mathlib.Core.List.{List}
-use Prim.Native.Nat.{ℕ, ◌+◌, ◌-◌, ◌≤◌, ◌<◌}
+use Prim.Native.Nat.{ℕ, ◌+◌, ◌≤◌}
 use native.Mathlib.Nat.{le_refl}
 use native.Mathlib.Omega.{arith}
 use Rattle.files.specs.Nodes.{ref_of, value_of}
@@ -27,21 +27,18 @@ pub record FieldsSoFar (b s r : List ℕ) (n e address : ℕ) (w₀ o₀ : List 
   pub fine : FineFields b i e
   pub rest : {d : Bool} {w' o' : List ℕ} → StoresFields b s r i e address w o d w' o' → StoresFields b s r n e address w₀ o₀ d w' o'
 
-field_before : {b : List ℕ} {n e : ℕ} {ts : Trees} → FieldsAt b n e ts → (n ≡ e → ⊥) → n < e
-field_before no_field ne = absurd (ne refl)
-field_before (a_field lt i k l h z f) ne = lt
+field_within : {b : List ℕ} {n e : ℕ} {ts : Trees} → FieldsAt b n e ts → n ≤ e
+field_within no_field = le_refl _
+field_within (a_field lt i k l h z f) = omega (arith, lt)
 
 pub fields_start : {b s r : List ℕ} {n e address : ℕ} {w o : List ℕ} → ReadyIn (given b s r) w → FineFields b n e → FieldsSoFar b s r n e address w o n w o
 fields_start p f = record { past = le_refl _; ready = p; fine = f; rest = λ k. k }
 
 module _ {b s r : List ℕ} {n e address : ℕ} {w₀ o₀ : List ℕ} {i : ℕ} {w o : List ℕ} (so : FieldsSoFar b s r n e address w₀ o₀ i w o) where
-  pub fields_done : i ≡ e → StoresFields b s r n e address w₀ o₀ true w o
-  fields_done z = so.rest (fields_end z)
+  pub fields_done : e ≤ i → StoresFields b s r n e address w₀ o₀ true w o
+  fields_done z = so.rest (fields_end (omega (arith, z, field_within so.fine.spells)))
 
   module _ (ne : i ≡ e → ⊥) where
-    pub fields_less : {m : ℕ} → m ≡ next b i → e - m < e - i
-    fields_less p = let z = field_inside ne so.fine in omega (arith, field_before so.fine.spells ne, p, z.some)
-
     module _ {q : Bool} {w₁ o₁ : List ℕ} (ev : Evaluates b s r (i + 1) w o q w₁ o₁) where
       pub fields_stopped : not q ≡ true → StoresFields b s r n e address w₀ o₀ false w₁ o₁
       fields_stopped eq = so.rest (fields_short ne ev eq)

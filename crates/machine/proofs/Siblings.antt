@@ -3,7 +3,7 @@ use Rattle.std.specs.Prelude.{Option, Some}
 use mathlib.Core.Path.{◌≡◌, refl}
 use mathlib.Core.Bool.{Bool, true, false, not}
 use mathlib.Core.List.{List}
-use Prim.Native.Nat.{ℕ, ◌-◌, ◌≤◌, ◌<◌}
+use Prim.Native.Nat.{ℕ, ◌≤◌}
 use native.Mathlib.Nat.{le_refl}
 use native.Mathlib.Omega.{arith}
 use Rattle.value.specs.declared.Val.{Val}
@@ -26,21 +26,18 @@ pub record KidsSoFar (b s r : List ℕ) (n e : ℕ) (w₀ o₀ : List ℕ) (i : 
   pub fine : FineKids b i e
   pub rest : {q : Bool} {w' o' : List ℕ} → EvaluatesKids b s r i e w o q w' o' → EvaluatesKids b s r n e w₀ o₀ q w' o'
 
-pub kid_before : {b : List ℕ} {n e : ℕ} {ts : Trees} → KidsAt b n e ts → (n ≡ e → ⊥) → n < e
-kid_before no_kid ne = absurd (ne refl)
-kid_before (a_kid lt h k) ne = lt
+pub kid_within : {b : List ℕ} {n e : ℕ} {ts : Trees} → KidsAt b n e ts → n ≤ e
+kid_within no_kid = le_refl _
+kid_within (a_kid lt h k) = omega (arith, lt)
 
 pub kids_start : {b s r : List ℕ} {n e : ℕ} {w o : List ℕ} → ReadyIn (given b s r) w → FineKids b n e → KidsSoFar b s r n e w o n w o
 kids_start p f = record { past = le_refl _; ready = p; fine = f; rest = λ k. k }
 
 module _ {b s r : List ℕ} {n e : ℕ} {w₀ o₀ : List ℕ} {i : ℕ} {w o : List ℕ} (z : KidsSoFar b s r n e w₀ o₀ i w o) where
-  pub kids_done : {q : Bool} {w' : List ℕ} → i ≡ e → Gives w nothing q w' → EvaluatesKids b s r n e w₀ o₀ q w' o
-  kids_done h p = z.rest (kids_end h p)
+  pub kids_done : {q : Bool} {w' : List ℕ} → e ≤ i → Gives w nothing q w' → EvaluatesKids b s r n e w₀ o₀ q w' o
+  kids_done h p = z.rest (kids_end (omega (arith, h, kid_within z.fine.spells)) p)
 
   module _ (ne : i ≡ e → ⊥) where
-    pub kids_less : {m : ℕ} → m ≡ next b i → e - m < e - i
-    kids_less p = omega (arith, kid_before z.fine.spells ne, next_past (kid_here ne z.fine) p)
-
     kids_on : {v : Val} {w₁ o₁ : List ℕ} {m : ℕ} → Valued b s r i w o v w₁ o₁ → m ≡ next b i → KidsSoFar b s r n e w₀ o₀ m w₁ o₁
     kids_on ev em = record {
       past = omega (arith, z.past, next_past (kid_here ne z.fine) em);

@@ -16,6 +16,7 @@ use files::kinds::Kind;
 use files::nodes;
 use hosting::{Did, Reads, Short};
 use operations::calls::VALUES;
+use operations::siblings::Siblings;
 use operations::{calls, names, places, results, values};
 use stream::Reason;
 use value::{Ty, Val};
@@ -301,7 +302,7 @@ fn store_struct(reads: &Reads, ws: &mut [u8], out: &mut [u8], base: usize, right
     places::built(reads.nodes, ws, first, end, v.number)
 }
 
-// The fields from node n up to node end, each stored at its offset from an address. (A loop by spans: where the next is only a node's own span says.)
+// The fields from node n up to node end, each stored at its offset from an address.
 #[cycle(evaluation)]
 fn store_fields(
     reads: &Reads,
@@ -315,16 +316,13 @@ fn store_fields(
     requires fine_fields { FineFields reads.now.nodes.now n end }
     ensures { StoresFields reads.now.nodes.now reads.now.symbols.now reads.now.regions.now n end address ws.old out.old result ws.new out.new }
 {
-    let mut i = n;
-    while i != end {
-        let more = places::next(reads.nodes, i);
+    for i in Siblings::new(reads.nodes, n, end) {
         if !evaluate(reads, ws, out, i + 1) {
             return false;
         }
         if !places::store_field(reads.nodes, ws, i, address) {
             return false;
         }
-        i = more;
     }
     true
 }
@@ -347,7 +345,6 @@ fn call(reads: &Reads, ws: &mut [u8], out: &mut [u8], n: usize) -> bool
 }
 
 // The values of the expressions from node n up to node end, in vals, and how many they are, or none where one ends short.
-// (A loop by spans, as `store_fields`.)
 #[cycle(evaluation)]
 fn args(
     reads: &Reads,
@@ -361,16 +358,13 @@ fn args(
     requires fine_args { FineArgs reads.now.nodes.now n end 0 }
     ensures { EvaluatesArgs reads.now.nodes.now reads.now.symbols.now reads.now.regions.now n end 0 ws.old out.old result vals.old vals.new ws.new out.new }
 {
-    let mut i = n;
     let mut j = 0;
-    while i != end {
-        let more = places::next(reads.nodes, i);
+    for i in Siblings::new(reads.nodes, n, end) {
         if !evaluate(reads, ws, out, i) {
             return None;
         }
         let v = registers::value(ws, results::RESULT);
         calls::put_val(vals, j, v);
-        i = more;
         j += 1;
     }
     Some(j)
@@ -389,16 +383,13 @@ fn intrinsic(reads: &Reads, ws: &mut [u8], out: &mut [u8], n: usize) -> bool
 }
 
 // The expressions from node n up to node end, each evaluated in order. One whose value is at hand needs nothing done.
-// (A loop by spans, as `store_fields`.)
 #[cycle(evaluation)]
 fn kids(reads: &Reads, ws: &mut [u8], out: &mut [u8], n: usize, end: usize) -> bool
     requires ready_by { ReadyBy reads.now.nodes.now reads.now.symbols.now reads.now.regions.now ws.old }
     requires fine_kids { FineKids reads.now.nodes.now n end }
     ensures { EvaluatesKids reads.now.nodes.now reads.now.symbols.now reads.now.regions.now n end ws.old out.old result ws.new out.new }
 {
-    let mut i = n;
-    while i != end {
-        let more = places::next(reads.nodes, i);
+    for i in Siblings::new(reads.nodes, n, end) {
         let hand = names::at_hand(reads.nodes, ws, i);
         match hand {
             Some(_) => {}
@@ -408,7 +399,6 @@ fn kids(reads: &Reads, ws: &mut [u8], out: &mut [u8], n: usize, end: usize) -> b
                 }
             }
         }
-        i = more;
     }
     values::unknown(ws, Ty::I64)
 }

@@ -6,6 +6,7 @@ pub mod Answering
 pub mod Asking
 pub mod Working
 pub mod Targeting
+pub mod Rows
 pub mod Counting
 pub mod Naming
 pub mod Taking

@@ -271,11 +271,11 @@ so_far_start f c = record {
   questions = refl;
 }
 
-undone_next : {b : List ℕ} {e i : ℕ} (E : Env) {was : ℕ → View} (w' w'' : List ℕ) {ts : Trees} → i < e → KidsAt b i e ts → ((stored : ℕ) → was stored ≡ take_views E (looks E ts) (view w' stored))
+undone_next : {b : List ℕ} {e i : ℕ} (E : Env) {was : ℕ → View} (w' w'' : List ℕ) {ts : Trees} → (i ≡ e → ⊥) → KidsAt b i e ts → ((stored : ℕ) → was stored ≡ take_views E (looks E ts) (view w' stored))
     → ((t : Tree) → Stands b i t → (stored : ℕ) → view w'' stored ≡ take_view (taken_by E (look E t)) (view w' stored)) → Undone b e (next b i) E was w''
 unfolding look
-undone_next E w' w'' l no_kid f g = absurd (omega (arith, l))
-undone_next E w' w'' l (a_kid {t = t} {ts = us} lt h ks) f g = record { trees = us; spells = ks; same = λ stored. f stored ∙ ap (take_views E (looks E us)) (sym (g t h stored)) }
+undone_next E w' w'' more no_kid f g = absurd (more refl)
+undone_next E w' w'' more (a_kid {t = t} {ts = us} lt h ks) f g = record { trees = us; spells = ks; same = λ stored. f stored ∙ ap (take_views E (looks E us)) (sym (g t h stored)) }
 
 undone_end : {b : List ℕ} {e i : ℕ} (E : Env) {was : ℕ → View} (w' : List ℕ) {ts : Trees} → e ≤ i → KidsAt b i e ts → ((stored : ℕ) → was stored ≡ take_views E (looks E ts) (view w' stored))
     → (stored : ℕ) → view w' stored ≡ was stored
@@ -285,18 +285,12 @@ undone_end E w' l (a_kid lt h ks) f stored = absurd (omega (arith, lt, l))
 
 module _ {b : List ℕ} {first e i : ℕ} {w w' : List ℕ} (s : SoFar b first e w i w') where
   -- one is left: it stands there, and the note has room for its name
-  module _ (l : i < e) where
-    more : i ≡ e → ⊥
-    more q = omega (arith, l, q)
-
+  module _ (more : i ≡ e → ⊥) where
     pub so_far_open : NoteOpen w'
     so_far_open = subst Open (sym s.noted) (omega (arith, s.few, args_few more s.left))
 
     pub so_far_fine : Fine b i
     so_far_fine = arg_here more s.left
-
-    pub so_far_next : {j : ℕ} → j ≡ next b i → i < j
-    so_far_next ej = let f = so_far_fine in omega (arith, ej, f.inside.some)
 
     pub so_far_more : {j : ℕ} {w'' : List ℕ} → Takes b i w' w'' → j ≡ next b i → SoFar b first e w j w''
     so_far_more {j} {w''} t ej =
@@ -310,7 +304,7 @@ module _ {b : List ℕ} {first e i : ℕ} {w w' : List ℕ} (s : SoFar b first e
           undone = λ E d ts h.
               let u = s.undone E d ts h in
               let d' : Declared (tables w') E = subst (λ (z : List ℕ). Declared z E) (sym s.tables) d in
-              subst (λ (m : ℕ). Undone b e m E (λ stored. take_views E (looks E ts) (view w stored)) w'') (sym ej) (undone_next E w' w'' l u.spells u.same (t.holds E d'));
+              subst (λ (m : ℕ). Undone b e m E (λ stored. take_views E (looks E ts) (view w stored)) w'') (sym ej) (undone_next E w' w'' more u.spells u.same (t.holds E d'));
           tables = t.tables ∙ s.tables;
           fit = λ stored h. t.fit stored (s.fit stored h);
           size = t.size ∙ s.size;

@@ -4,3 +4,4 @@ pub mod Going
 pub mod Steps
 pub mod Asking
 pub mod Taking
+pub mod Rows

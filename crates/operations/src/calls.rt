@@ -7,6 +7,7 @@ ghost use Rattle.operations.specs.Taking.{PutsVal, Follows, Takes, TakesAll, Not
 
 use crate::places::next;
 use crate::results::{ASKED, DEPTH, SECOND};
+use crate::siblings::Siblings;
 use crate::values::unknown;
 use files::kinds::Kind;
 use files::nodes;
@@ -75,17 +76,15 @@ fn take(nodes: &[u8], ws: &mut [u8], n: usize)
     }
 }
 
-// The same of each argument from node first up to node end. (A loop by spans: where the next is only a node's own span says.)
+// The same of each argument from node first up to node end.
 fn take_all(nodes: &[u8], ws: &mut [u8], first: usize, end: usize)
     requires workspace_long { workspace_size ≤ length ws.old }
     requires fine_args { FineArgs nodes.now first end 0 }
     ensures { TakesAll nodes.now first end ws.old ws.new }
 {
     note::start_note(ws);
-    let mut i = first;
-    while i < end {
+    for i in Siblings::new(nodes, first, end) {
         take(nodes, ws, i);
-        i = next(nodes, i);
     }
 }
 

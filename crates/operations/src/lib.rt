@@ -9,4 +9,5 @@ pub mod calls;
 pub mod names;
 pub mod places;
 pub mod results;
+pub mod siblings;
 pub mod values;

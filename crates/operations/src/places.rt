@@ -16,6 +16,7 @@ ghost use Rattle.operations.specs.Asking.{Sends, found_val, LoadsAt};
 ghost use Rattle.operations.specs.Steps.{Gives, Targets, base_at, store_through, store_field, Builds, CountsFields};
 
 use crate::results::{ASKED, REGIONS, RESULT, SECOND, STORED, ends, fields, is, written};
+use crate::siblings::Siblings;
 use crate::values::{type_of, unknown};
 use files::kinds::Kind;
 use files::nodes;
@@ -189,18 +190,12 @@ pub fn store_field(nodes: &[u8], ws: &mut [u8], n: usize, address: u64) -> bool
     store_value(ws, place, v.cast(ty))
 }
 
-// How many fields stand from node n up to node end. (A loop by spans: where the next is only a node's own span says.)
+// How many fields stand from node n up to node end.
 fn count(nodes: &[u8], n: usize, end: usize) -> u64
     requires { FineFields nodes.now n end }
     ensures { CountsFields nodes.now n end result }
 {
-    let mut i = n;
-    let mut k: u64 = 0;
-    while i < end {
-        i = next(nodes, i);
-        k += 1;
-    }
-    k
+    Siblings::new(nodes, n, end).count() as u64
 }
 
 // The fields from node n up to node end were stored from an address on.

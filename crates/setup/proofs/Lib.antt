@@ -1,6 +1,5 @@
 pub mod Following
 pub mod TypeLaws
-pub mod TextWalk
 pub mod NameSearch
 pub mod SpellLaws
 pub mod Standing

@@ -9,10 +9,11 @@ use Rattle.machine.proofs.Operands.{binary_start, binary_fine, binary_falls, bin
 use Rattle.machine.proofs.Pointing.{target_falls, deref_short, deref_ready, deref_nowhere, target_narrow, deref_loads}
 use Rattle.machine.proofs.Ranks.{here_falls, first_falls, next_past, second_falls, right_falls, assign_falls, kind_falls, assigned_falls, operand_falls, field_falls}
 use Rattle.machine.proofs.Room.{room_in, room_after}
-use Rattle.machine.proofs.SiblingArgs.{args_start, args_stopped, arg_ready, args_room, args_less, args_next, args_done}
-use Rattle.machine.proofs.SiblingFields.{fields_start, fields_stopped, field_stopped, fields_less, fields_next, fields_done}
-use Rattle.machine.proofs.Siblings.{kids_start, kids_stopped, kids_less, kids_skipped, kids_next, kids_done}
+use Rattle.machine.proofs.SiblingArgs.{args_start, args_stopped, arg_ready, args_room, args_next, args_done}
+use Rattle.machine.proofs.SiblingFields.{fields_start, fields_stopped, field_stopped, fields_next, fields_done}
+use Rattle.machine.proofs.Siblings.{kids_start, kids_stopped, kids_skipped, kids_next, kids_done}
 use Rattle.machine.proofs.Storing.{odd_struct, base_past, struct_fails, struct_assigns, unknown_stores, known_fails, known_stores}
+use Rattle.operations.proofs.Rows.{row_of_kids, row_of_fields, over_at, over_more, over_on}
 use Rattle.operations.proofs.Targeting.{base_fine, target_fine}
 use borrow.Author.Rules.{rules}
 use borrow.Author.Tests.{not-true, not-false}
@@ -26,38 +27,32 @@ use Rattle.machine.proofs.+evaluation.Goals as goal
 use Rattle.machine.proofs.+evaluation.Goals.{binary-in-Some, binary-in-None+else-not-evaluate}
 
 pub args-loop-i-init : goal.args-loop-i-init
-args-loop-i-init t c = search (rules, args_start)
-
-pub args-next-more-requires : goal.args-next-more-requires
-args-next-more-requires t c = search (rules, room, arg_here)
+args-loop-i-init t c = rw (c.into_iter-i-iterator.ensures.into_iter_gives, c.new-i-items.ensures) (search (rules, args_start, row_of_kids))
 
 pub args-evaluate-requires : goal.args-evaluate-requires
-args-evaluate-requires t c = (search (rules, here_falls), (search rules, search (rules, arg_here)))
+args-evaluate-requires t c = (here_falls _ _ c.decreases (over_at c.loop-i.invariant.0 c.in-Some.ensures.steps).past, ((c.loop-i.invariant.0.here.ready, c.requires.ready_by.1), arg_here (over_more c.loop-i.invariant.0 c.in-Some.ensures.steps) (over_at c.loop-i.invariant.0 c.in-Some.ensures.steps).fine))
 
 pub args-returns-then-not-evaluate : goal.args-returns-then-not-evaluate
-args-returns-then-not-evaluate t c = args_stopped c.loop-i.invariant.0 c.loop-i-test.true c.evaluate.ensures.0 c.if-not-evaluate.true
+args-returns-then-not-evaluate t c = args_stopped (over_at c.loop-i.invariant.0 c.in-Some.ensures.steps) (over_more c.loop-i.invariant.0 c.in-Some.ensures.steps) c.evaluate.ensures.0 c.if-not-evaluate.true
 
 pub args-value-v-requires : goal.args-value-v-requires
-args-value-v-requires t c = ((arg_ready c.loop-i.invariant.0 c.loop-i-test.true c.evaluate.ensures.0 c.if-not-evaluate.false).ready.fit.room, omega arith)
+args-value-v-requires t c = ((arg_ready (over_at c.loop-i.invariant.0 c.in-Some.ensures.steps) (over_more c.loop-i.invariant.0 c.in-Some.ensures.steps) c.evaluate.ensures.0 c.if-not-evaluate.false).ready.fit.room, omega arith)
 
 pub args-put_val-requires : goal.args-put_val-requires
-args-put_val-requires t c = args_room c.loop-i.invariant.0 c.loop-i-test.true
+args-put_val-requires t c = args_room (over_at c.loop-i.invariant.0 c.in-Some.ensures.steps) (over_more c.loop-i.invariant.0 c.in-Some.ensures.steps)
 
 pub args-overflow_add-j : goal.args-overflow_add-j
-args-overflow_add-j t c = omega (arith, args_room c.loop-i.invariant.0 c.loop-i-test.true)
-
-pub args-loop-i-smaller : goal.args-loop-i-smaller
-args-loop-i-smaller t c = args_less c.loop-i.invariant.0 c.loop-i-test.true c.next-more.ensures
+args-overflow_add-j t c = omega (arith, args_room (over_at c.loop-i.invariant.0 c.in-Some.ensures.steps) (over_more c.loop-i.invariant.0 c.in-Some.ensures.steps))
 
 pub args-loop-i-preserved : goal.args-loop-i-preserved
 args-loop-i-preserved t c = let l = c.loop-i.invariant in (
-  args_next l.0 c.loop-i-test.true c.evaluate.ensures.0 c.if-not-evaluate.false c.next-more.ensures c.value-v.ensures c.put_val.ensures,
+  over_on l.0 c.in-Some.ensures.steps (args_next (over_at c.loop-i.invariant.0 c.in-Some.ensures.steps) (over_more c.loop-i.invariant.0 c.in-Some.ensures.steps) c.evaluate.ensures.0 c.if-not-evaluate.false refl c.value-v.ensures c.put_val.ensures),
   c.evaluate.auto.ws ∙ l.1,
   c.evaluate.auto.out ∙ l.2,
 )
 
 pub args-returns : goal.args-returns
-args-returns t c = search (rules, args_done)
+args-returns t c = args_done c.loop-i.invariant.0.here (omega (arith, c.in-None.ensures.steps, c.loop-i.invariant.0.end))
 
 pub assign-overflow_add-left : goal.assign-overflow_add-left
 assign-overflow_add-left t c = search (rules, room)
@@ -390,34 +385,25 @@ pub intrinsic-returns : goal.intrinsic-returns
 intrinsic-returns t c = search (rules, intrinsic_evals)
 
 pub kids-loop-i-init : goal.kids-loop-i-init
-kids-loop-i-init t c = search (rules, kids_start)
-
-pub kids-next-more-requires : goal.kids-next-more-requires
-kids-next-more-requires t c = search (rules, room, kid_here)
+kids-loop-i-init t c = rw (c.into_iter-i-iterator.ensures.into_iter_gives, c.new-i-items.ensures) (search (rules, kids_start, row_of_kids))
 
 pub kids-at_hand-hand-requires : goal.kids-at_hand-hand-requires
-kids-at_hand-hand-requires t c = search (rules, kid_here)
+kids-at_hand-hand-requires t c = search (rules, kid_here (over_more c.loop-i.invariant.0 c.in-Some.ensures.steps) (over_at c.loop-i.invariant.0 c.in-Some.ensures.steps).fine)
 
 pub kids-evaluate-requires : goal.kids-evaluate-requires
-kids-evaluate-requires t c = search (rules, here_falls, kid_here)
+kids-evaluate-requires t c = (here_falls _ _ c.decreases (over_at c.loop-i.invariant.0 c.in-Some.ensures.steps).past, ((c.loop-i.invariant.0.here.ready, c.requires.ready_by.1), kid_here (over_more c.loop-i.invariant.0 c.in-Some.ensures.steps) (over_at c.loop-i.invariant.0 c.in-Some.ensures.steps).fine))
 
 pub kids-returns-then-not-evaluate : goal.kids-returns-then-not-evaluate
-kids-returns-then-not-evaluate t c = search (rules, kids_stopped)
+kids-returns-then-not-evaluate t c = kids_stopped (over_at c.loop-i.invariant.0 c.in-Some.ensures.steps) (over_more c.loop-i.invariant.0 c.in-Some.ensures.steps) c.evaluate.ensures.0 (ap not c.if-not-evaluate.true)
 
-pub kids-loop-i-smaller-in-Some : goal.kids-loop-i-smaller-in-Some
-kids-loop-i-smaller-in-Some t c = search (rules, kids_less)
-
-pub kids-loop-i-preserved-in-Some : goal.kids-loop-i-preserved-in-Some
-kids-loop-i-preserved-in-Some t c = search (rules, kids_skipped)
-
-pub kids-loop-i-smaller : goal.kids-loop-i-smaller
-kids-loop-i-smaller t c = search (rules, kids_less)
+pub kids-loop-i-preserved-in-Some-hand : goal.kids-loop-i-preserved-in-Some-hand
+kids-loop-i-preserved-in-Some-hand t c = (over_on c.loop-i.invariant.0 c.in-Some.ensures.steps (kids_skipped (over_at c.loop-i.invariant.0 c.in-Some.ensures.steps) (over_more c.loop-i.invariant.0 c.in-Some.ensures.steps) c.at_hand-hand.ensures c.in-Some-hand.is refl), c.loop-i.invariant.1, c.loop-i.invariant.2)
 
 pub kids-loop-i-preserved : goal.kids-loop-i-preserved
-kids-loop-i-preserved t c = search (rules, kids_next)
+kids-loop-i-preserved t c = (over_on c.loop-i.invariant.0 c.in-Some.ensures.steps (kids_next (over_at c.loop-i.invariant.0 c.in-Some.ensures.steps) (over_more c.loop-i.invariant.0 c.in-Some.ensures.steps) c.evaluate.ensures.0 (ap not c.if-not-evaluate.false) refl), c.evaluate.auto.ws ∙ c.loop-i.invariant.1, c.evaluate.auto.out ∙ c.loop-i.invariant.2)
 
 pub kids-returns : goal.kids-returns
-kids-returns t c = search (rules, kids_done)
+kids-returns t c = kids_done c.loop-i.invariant.0.here (omega (arith, c.in-None.ensures.steps, c.loop-i.invariant.0.end)) c.unknown.ensures
 
 pub operand-evaluate-requires : goal.operand-evaluate-requires
 operand-evaluate-requires t c = search (rules, operand_falls)
@@ -444,35 +430,35 @@ pub returned-returns-else-end-n : goal.returned-returns-else-end-n
 returned-returns-else-end-n t c = search (rules, returned_evals)
 
 pub store_fields-loop-i-init : goal.store_fields-loop-i-init
-store_fields-loop-i-init t c = search (rules, fields_start)
-
-pub store_fields-next-more-requires : goal.store_fields-next-more-requires
-store_fields-next-more-requires t c = search (rules, field_room)
+store_fields-loop-i-init t c = rw (c.into_iter-i-iterator.ensures.into_iter_gives, c.new-i-items.ensures) (search (rules, fields_start, row_of_fields))
 
 pub store_fields-overflow_add-i : goal.store_fields-overflow_add-i
-store_fields-overflow_add-i t c = let i = field_inside c.loop-i-test.true c.loop-i.invariant.0.fine in
-    omega (arith, i.some, c.next-more.ensures, c.next-more.type_inv)
+store_fields-overflow_add-i t c = let i = field_inside (over_more c.loop-i.invariant.0 c.in-Some.ensures.steps) (over_at c.loop-i.invariant.0 c.in-Some.ensures.steps).fine in
+    omega (arith, i.some, i.fits)
 
 pub store_fields-evaluate-requires : goal.store_fields-evaluate-requires
-store_fields-evaluate-requires t c = (field_falls _ _ 0 3 c.decreases c.loop-i.invariant.0.past c.loop-i-test.true c.loop-i.invariant.0.fine (omega arith), ((c.loop-i.invariant.0.ready, c.requires.ready_by.1), field_kid c.loop-i-test.true c.loop-i.invariant.0.fine))
+store_fields-evaluate-requires t c =
+    let z = over_at c.loop-i.invariant.0 c.in-Some.ensures.steps in
+    let ne = over_more c.loop-i.invariant.0 c.in-Some.ensures.steps in
+    (field_falls _ _ 0 3 c.decreases z.past ne z.fine (omega arith), ((z.ready, c.requires.ready_by.1), field_kid ne z.fine))
 
 pub store_fields-returns-then-not-evaluate : goal.store_fields-returns-then-not-evaluate
-store_fields-returns-then-not-evaluate t c = fields_stopped c.loop-i.invariant.0 c.loop-i-test.true c.evaluate.ensures.0 (ap not c.if-not-evaluate.true)
+store_fields-returns-then-not-evaluate t c = fields_stopped (over_at c.loop-i.invariant.0 c.in-Some.ensures.steps) (over_more c.loop-i.invariant.0 c.in-Some.ensures.steps) c.evaluate.ensures.0 (ap not c.if-not-evaluate.true)
 
 pub store_fields-store_field-requires : goal.store_fields-store_field-requires
-store_fields-store_field-requires t c = record { fit = (ready_on c.evaluate.ensures.0 c.loop-i.invariant.0.ready (ap not c.if-not-evaluate.false) (field_kid c.loop-i-test.true c.loop-i.invariant.0.fine)).ready.fit; typed = record { inside = field_room c.loop-i-test.true c.loop-i.invariant.0.fine; below = field_type c.loop-i-test.true c.loop-i.invariant.0.fine } }
+store_fields-store_field-requires t c =
+    let z = over_at c.loop-i.invariant.0 c.in-Some.ensures.steps in
+    let ne = over_more c.loop-i.invariant.0 c.in-Some.ensures.steps in
+    record { fit = (ready_on c.evaluate.ensures.0 z.ready (ap not c.if-not-evaluate.false) (field_kid ne z.fine)).ready.fit; typed = record { inside = field_room ne z.fine; below = field_type ne z.fine } }
 
 pub store_fields-returns-then-not-store_field : goal.store_fields-returns-then-not-store_field
-store_fields-returns-then-not-store_field t c = field_stopped c.loop-i.invariant.0 c.loop-i-test.true c.evaluate.ensures.0 (ap not c.if-not-evaluate.false) c.store_field.result c.store_field.ensures (ap not c.if-not-store_field.true)
-
-pub store_fields-loop-i-smaller : goal.store_fields-loop-i-smaller
-store_fields-loop-i-smaller t c = fields_less c.loop-i.invariant.0 c.loop-i-test.true c.next-more.ensures
+store_fields-returns-then-not-store_field t c = field_stopped (over_at c.loop-i.invariant.0 c.in-Some.ensures.steps) (over_more c.loop-i.invariant.0 c.in-Some.ensures.steps) c.evaluate.ensures.0 (ap not c.if-not-evaluate.false) c.store_field.result c.store_field.ensures (ap not c.if-not-store_field.true)
 
 pub store_fields-loop-i-preserved : goal.store_fields-loop-i-preserved
-store_fields-loop-i-preserved t c = (fields_next c.loop-i.invariant.0 c.loop-i-test.true c.evaluate.ensures.0 (ap not c.if-not-evaluate.false) c.store_field.result c.store_field.ensures (ap not c.if-not-store_field.false) c.next-more.ensures, c.store_field.auto.ws ∙ c.evaluate.auto.ws ∙ c.loop-i.invariant.1, c.evaluate.auto.out ∙ c.loop-i.invariant.2)
+store_fields-loop-i-preserved t c = (over_on c.loop-i.invariant.0 c.in-Some.ensures.steps (fields_next (over_at c.loop-i.invariant.0 c.in-Some.ensures.steps) (over_more c.loop-i.invariant.0 c.in-Some.ensures.steps) c.evaluate.ensures.0 (ap not c.if-not-evaluate.false) c.store_field.result c.store_field.ensures (ap not c.if-not-store_field.false) refl), c.store_field.auto.ws ∙ c.evaluate.auto.ws ∙ c.loop-i.invariant.1, c.evaluate.auto.out ∙ c.loop-i.invariant.2)
 
 pub store_fields-returns : goal.store_fields-returns
-store_fields-returns t c = search (rules, fields_done)
+store_fields-returns t c = fields_done c.loop-i.invariant.0.here (omega (arith, c.in-None.ensures.steps, c.loop-i.invariant.0.end))
 
 pub store_struct-value-v-requires : goal.store_struct-value-v-requires
 store_struct-value-v-requires t c = (search (rules, room_in), omega arith)

@@ -1,5 +1,5 @@
 -- The measures of the cycle, and how far each loop has come. Assumes nothing.
-use Prim.Native.Nat.{◌-◌}
+use Rattle.operations.proofs.Rows.{Over}
 use Rattle.machine.proofs.Operands.{BinarySoFar, TernarySoFar}
 use Rattle.machine.proofs.Ranks.{left}
 use Rattle.machine.proofs.SiblingArgs.{ArgsSoFar}
@@ -61,25 +61,16 @@ abbrev pub decreases-ternary : goal.decreases-ternary
 decreases-ternary l = left l.reads.now.nodes.now l.n 0
 
 abbrev pub invariant-args-loop-i : goal.invariant-args-loop-i
-invariant-args-loop-i l = ArgsSoFar l.reads.nodes.now l.reads.symbols.now l.reads.regions.now l.n l.end l.initial.ws l.initial.out l.initial.vals l.i l.j l.ws l.out l.vals × (length l.ws ≡ length l.initial.ws) × (length l.out ≡ length l.initial.out)
-
-abbrev pub decreases-args-loop-i : goal.decreases-args-loop-i
-decreases-args-loop-i l = l.end - l.i
+invariant-args-loop-i l = Over l.reads.nodes.now l.end (λ i. ArgsSoFar l.reads.nodes.now l.reads.symbols.now l.reads.regions.now l.n l.end l.initial.ws l.initial.out l.initial.vals i l.j l.ws l.out l.vals) l.i-iterator × (length l.ws ≡ length l.initial.ws) × (length l.out ≡ length l.initial.out)
 
 abbrev pub invariant-binary-loop-round : goal.invariant-binary-loop-round
 invariant-binary-loop-round l = BinarySoFar l.reads.nodes.now l.reads.symbols.now l.reads.regions.now l.n l.initial.ws l.initial.out l._round l.i l.l l.r l.ws l.out × (length l.ws ≡ length l.initial.ws) × (length l.out ≡ length l.initial.out)
 
 abbrev pub invariant-kids-loop-i : goal.invariant-kids-loop-i
-invariant-kids-loop-i l = KidsSoFar l.reads.nodes.now l.reads.symbols.now l.reads.regions.now l.n l.end l.initial.ws l.initial.out l.i l.ws l.out × (length l.ws ≡ length l.initial.ws) × (length l.out ≡ length l.initial.out)
-
-abbrev pub decreases-kids-loop-i : goal.decreases-kids-loop-i
-decreases-kids-loop-i l = l.end - l.i
+invariant-kids-loop-i l = Over l.reads.nodes.now l.end (λ i. KidsSoFar l.reads.nodes.now l.reads.symbols.now l.reads.regions.now l.n l.end l.initial.ws l.initial.out i l.ws l.out) l.i-iterator × (length l.ws ≡ length l.initial.ws) × (length l.out ≡ length l.initial.out)
 
 abbrev pub invariant-store_fields-loop-i : goal.invariant-store_fields-loop-i
-invariant-store_fields-loop-i l = FieldsSoFar l.reads.nodes.now l.reads.symbols.now l.reads.regions.now l.n l.end l.address l.initial.ws l.initial.out l.i l.ws l.out × (length l.ws ≡ length l.initial.ws) × (length l.out ≡ length l.initial.out)
-
-abbrev pub decreases-store_fields-loop-i : goal.decreases-store_fields-loop-i
-decreases-store_fields-loop-i l = l.end - l.i
+invariant-store_fields-loop-i l = Over l.reads.nodes.now l.end (λ i. FieldsSoFar l.reads.nodes.now l.reads.symbols.now l.reads.regions.now l.n l.end l.address l.initial.ws l.initial.out i l.ws l.out) l.i-iterator × (length l.ws ≡ length l.initial.ws) × (length l.out ≡ length l.initial.out)
 
 abbrev pub invariant-ternary-loop-round : goal.invariant-ternary-loop-round
 invariant-ternary-loop-round l = TernarySoFar l.reads.nodes.now l.reads.symbols.now l.reads.regions.now l.n l.initial.ws l.initial.out l._round l.i l.condition l.then l.ws l.out × (length l.ws ≡ length l.initial.ws) × (length l.out ≡ length l.initial.out)

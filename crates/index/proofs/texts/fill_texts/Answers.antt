@@ -1,14 +1,22 @@
 -- `fill_texts` meets its contract. The loop's invariant: the text before which it stands is numbered by how many entries are made, and they are right.
 -- Assumes nothing.
-use borrow.Author.Rules.{rules}
-use Rattle.index.proofs.TextIndex.{texts_none, text_filled, texts_filled}
+use Rattle.std.proofs.Common.{arith, rules}
+use Rattle.index.proofs.TextIndex.{texts_none, texts_few, text_fits, text_filled, texts_filled}
 use Rattle.index.proofs.texts.fill_texts.Goals as goal
 
-pub loop-at-init : goal.loop-at-init
-loop-at-init c = search (rules, texts_none)
+pub loop-text-init : goal.loop-text-init
+loop-text-init c = search (rules, texts_none)
 
-pub loop-at-preserved : goal.loop-at-preserved
-loop-at-preserved c = search (rules, text_filled)
+pub put-requires-clause-inside : goal.put-requires-clause-inside
+put-requires-clause-inside c = omega (arith, texts_few c.requires.0 c.loop-text.invariant.0 c.next.new.self.rest.now c.in-Some.ensures.steps, c.loop-text.invariant.0.room)
+
+pub overflow_add-at-in-loop-text : goal.overflow_add-at-in-loop-text
+overflow_add-at-in-loop-text c =
+    let short = text_fits c.requires.0 c.loop-text.invariant.0 c.next.new.self.rest.now c.in-Some.ensures.steps (search rules) in
+    search rules
+
+pub loop-text-preserved : goal.loop-text-preserved
+loop-text-preserved c = (text_filled c.requires.0 c.loop-text.invariant.0 c.next.new.self.rest.now c.in-Some.ensures.steps (search rules) c.put.ensures, search rules)
 
 pub returns : goal.returns
-returns c = texts_filled c.requires.0 c.loop-at.invariant.0 c.loop-at-test.false
+returns c = texts_filled c.requires.0 c.loop-text.invariant.0 c.in-None.ensures.steps.0

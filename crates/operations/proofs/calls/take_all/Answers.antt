@@ -1,22 +1,22 @@
-use Rattle.std.proofs.Common.{arith, rules}
-use Rattle.hosting.proofs.Shapes.{room}
-use Rattle.operations.proofs.Taking.{so_far_start, so_far_fine, so_far_open, so_far_next, so_far_more, so_far_end}
+use Rattle.std.proofs.Common.{refl, arith, rules}
+use Rattle.operations.proofs.Rows.{row_of_kids, over_at, over_more, over_on}
+use Rattle.operations.proofs.Taking.{so_far_start, so_far_fine, so_far_open, so_far_more, so_far_end}
 use Rattle.operations.proofs.calls.take_all.Goals as goal
 
 pub loop-i-init : goal.loop-i-init
-loop-i-init c = search (rules, so_far_start)
+loop-i-init c = rw (c.into_iter-i-iterator.ensures.into_iter_gives, c.new-i-items.ensures) (search (rules, so_far_start, row_of_kids))
 
 pub take-requires : goal.take-requires
-take-requires c = search (rules, so_far_fine, so_far_open)
-
-pub next-i-requires : goal.next-i-requires
-next-i-requires c = room (so_far_fine c.loop-i.invariant c.loop-i-test.true)
-
-pub loop-i-smaller : goal.loop-i-smaller
-loop-i-smaller c = omega (arith, so_far_next c.loop-i.invariant c.loop-i-test.true c.next-i.ensures)
+take-requires c =
+    let z = over_at c.loop-i.invariant c.in-Some.ensures.steps in
+    let more = over_more c.loop-i.invariant c.in-Some.ensures.steps in
+    record { workspace_long = search rules; fine = so_far_fine z more; note_open = so_far_open z more }
 
 pub loop-i-preserved : goal.loop-i-preserved
-loop-i-preserved c = search (rules, so_far_more)
+loop-i-preserved c =
+    let o = c.loop-i.invariant in
+    let st = c.in-Some.ensures.steps in
+    over_on o st (so_far_more (over_at o st) (over_more o st) c.take.ensures refl)
 
 pub returns : goal.returns
-returns c = search (rules, so_far_end)
+returns c = so_far_end c.loop-i.invariant.here (omega (arith, c.in-None.ensures.steps, c.loop-i.invariant.end)) c.start_note.ensures

@@ -1,19 +1,24 @@
--- `find_name` meets its contract. The loop's invariant: no name before the one at the place has the text. Assumes nothing.
-use Rattle.setup.proofs.NameSearch.{seek_none, seek_inside, seek_on, seek_found, seek_done}
-use borrow.Author.Rules.{rules}
+-- `find_name` meets its contract. Assumes nothing.
+use Rattle.std.proofs.Common.{inl, rules, arith}
+use Rattle.std.proofs.lemmas.Iterator.{IsFirst-from_position}
+use Rattle.std.proofs.lemmas.Iterator.Consumers.{YieldsList-from_first}
+use Rattle.files.specs.Program.{texts_in}
+use Rattle.index.specs.Texts.{text_count}
+use Rattle.index.proofs.TextPlaces.{names_texts}
+use Rattle.setup.proofs.NameSearch.{Hits, Misses, found_name}
 use Rattle.setup.proofs.texts.find_name.Goals as goal
 
-pub loop-at-init : goal.loop-at-init
-loop-at-init c = search (rules, seek_none)
+pub texts-requires : goal.texts-requires
+texts-requires c = search (rules, names_texts)
 
-pub text_at-name-requires : goal.text_at-name-requires
-text_at-name-requires c = search (rules, seek_inside)
-
-pub returns-then-eq : goal.returns-then-eq
-returns-then-eq c = search (rules, seek_found)
-
-pub loop-at-preserved : goal.loop-at-preserved
-loop-at-preserved c = search (rules, seek_on)
+pub position-requires-clause-fits : goal.position-requires-clause-fits
+unfolding text_count
+position-requires-clause-fits c = let few = c.texts.result.filled.few in inl (omega arith)
 
 pub returns : goal.returns
-returns c = search (rules, seek_done)
+unfolding text_count
+returns c =
+    let wanted = c.args.wanted.now in
+    found_name c.requires.0 c.requires.1 (search rules) c.requires.2 c.position.result
+    (IsFirst-from_position c.position.new.self _ c.position.result (Hits wanted) (Misses wanted) c.position.ensures.ran
+    (YieldsList-from_first (λ x. x.now) (λ s. texts_in s.rest.now) (texts_in c.args.names.now) c.texts.ensures) (λ x q k. search rules) (λ x q k. search rules))

@@ -1,21 +1,27 @@
--- `put_types` meets its contract. The loop's invariant: the first i types are put. Assumes nothing.
+-- `put_types` meets its contract. Assumes nothing.
+use Rattle.std.proofs.Common.{[], rules, refl, ap, ◌∙◌}
 use Rattle.setup.proofs.TypeLaws.{coded_type}
-use Rattle.setup.proofs.SpellLaws.{spell_none, spell_few, spell_inside, coded_pointee, spell_more, spell_done}
-use borrow.Author.Rules.{rules}
+use Rattle.setup.proofs.SpellLaws.{coded_pointee, spell_text, spell_past}
 use Rattle.setup.proofs.texts.put_types.Goals as goal
-
-pub loop-at-init : goal.loop-at-init
-loop-at-init c = search (rules, spell_none)
-
-pub text_at-text-requires : goal.text_at-text-requires
-text_at-text-requires c = search (rules, spell_inside)
+use Rattle.setup.proofs.texts.put_types.Goals.{in-Some, in-None}
 
 pub put_type-requires : goal.put_type-requires
-put_type-requires c = search (rules, spell_few, coded_type, coded_pointee)
+put_type-requires c = elim c.match-next.branch [
+  | in-Some w ↦ (
+    search rules,
+    search rules,
+    coded_type w.in-Some.text.now (ap (λ q. q.0) w.pointee-is ∙ w.type_of.ensures),
+    coded_pointee w.in-Some.text.now (ap (λ q. q.1) w.pointee-is ∙ w.points_at.ensures),
+  )
+  | in-None w ↦ (search rules, search rules, coded_type [] (ap (λ q. q.0) w.pointee-is ∙ c.type_of-unspelled.ensures), coded_pointee [] (ap (λ q. q.1) w.pointee-is))
+]
 
-pub loop-at-preserved : goal.loop-at-preserved
-loop-at-preserved c = spell_more c.requires.0 c.loop-at.invariant c.loop-at-test.true c.text_at-text.ensures
-    c.type_of.ensures c.points_at.ensures c.put_type.ensures
-
-pub returns : goal.returns
-returns c = search (rules, spell_done)
+pub loop-i-preserved : goal.loop-i-preserved
+loop-i-preserved c = elim c.match-next.branch [
+  | in-Some w ↦
+      spell_text c.loop-i.invariant (ap (λ q. q.0) w.pointee-is ∙ w.type_of.ensures) (ap (λ q. q.1) w.pointee-is ∙ w.points_at.ensures) c.put_type.ensures
+      (search rules)
+  | in-None w ↦
+      spell_past {t = []} c.loop-i.invariant (ap (λ q. q.0) w.pointee-is ∙ c.type_of-unspelled.ensures) (ap (λ q. q.1) w.pointee-is) c.put_type.ensures
+      (search rules) refl
+]
