@@ -12,7 +12,7 @@ use lib.ListN.{length, replicate}
 use Rattle.value.specs.declared.Val.{Val}
 use Rattle.files.specs.declared.refusal.Refusal.{Refusal}
 use Rattle.files.specs.declared.refusal.Refusal.TheVariants.{Workspace}
-use Rattle.files.specs.Refusal.{constant_refusal, refusal_number, or_else}
+use Rattle.files.specs.Refusal.{routine_refusal, constant_refusal, refusal_number, or_else}
 use Rattle.files.proofs.RefusalLaws.{or_refusal}
 use Rattle.definition.specs.Act.{End, gave, stopped}
 use Rattle.definition.specs.Run.{address_limit, workspace_needed}
@@ -29,6 +29,11 @@ use Rattle.emulate.specs.Giving.{answer_of, ConstantGiven}
 then_known : (b : Bool) (v : Val) → elim b [ true ↦ Some v | false ↦ None ] ≡ then_some b v
 then_known true v = refl
 then_known false v = refl
+
+-- 1 to 7, of the routine alone
+pub routine_input : (routine : List ℕ) (node : ℕ) (e : Refusal) → routine_refusal routine ≡ refusal_number e → refusal_number e ≡ constant_refusal routine node
+unfolding constant_refusal
+routine_input routine node e h = rw h (or_refusal e _)
 
 module _ (routine : List ℕ) (node : ℕ) (workspace₀ : List ℕ) where
   -- ---- an evaluation

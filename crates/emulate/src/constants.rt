@@ -33,10 +33,7 @@ fn no_value(refusal: u32) -> Constant
 {
     Constant {
         refusal,
-        known: false,
-        signed: false,
-        bits: 0,
-        number: 0,
+        ..Constant::default()
     }
 }
 

@@ -13,15 +13,16 @@ ghost use Rattle.passes.specs.Writing.{Ended};
 ghost use Rattle.emulate.specs.Answers.{AnswersFrom, length_in};
 ghost use Rattle.emulate.specs.Giving.{ConstantGiven};
 
+use files::checked::Routine;
 use files::refusal::Refusal;
 use hosting::{Indexed, Walked};
 use passes::accepted::Accepted;
 use passes::bodies;
 use value::Val;
 
-// 0 and the record's length, or a refusal's number and 0.
+// 0 and the record's length, or a refusal's number and 0. (The fields that C reads.)
 #[repr(C)]
-#[derive(Clone, Copy)]
+#[derive(Clone, Copy, PartialEq, Eq)]
 pub struct Answer {
     pub number: u32,
     pub length: u32,
@@ -58,9 +59,9 @@ fn run_on(
     r: Walked,
 ) -> Result<u32, Refusal>
     requires workspace_long { workspace_needed ≤ length ws.old }
-    requires tabled { Tabled files.routine.now files.world.now ws.old index }
+    requires tabled { Tabled files.routine.bytes.now files.world.bytes.now ws.old index }
     requires ended { Ended (ran_of files) (steps_of files) r.stop ws.old r.at }
-    ensures { AnswersFrom files.entry.routine.now files.entry.world.now files.entry.call.now buffer.old ws.old (refused result) (length_in result) buffer.new ws.new }
+    ensures { AnswersFrom files.entry.routine.bytes.now files.entry.world.bytes.now files.entry.call.bytes.now buffer.old ws.old (refused result) (length_in result) buffer.new ws.new }
 {
     let at = r.at;
     let l = bodies::measure(ws, at);
@@ -76,7 +77,7 @@ fn run_on(
 // The run of files that are accepted, in a workspace that is long enough. The tables are made once: a walk keeps them.
 fn run_accepted(files: Accepted, buffer: &mut [u8], ws: &mut [u8]) -> Result<u32, Refusal>
     requires { workspace_needed ≤ length ws.old }
-    ensures { Answered files.entry.routine.now files.entry.world.now files.entry.call.now buffer.old ws.old (refused result) (length_in result) buffer.new ws.new }
+    ensures { Answered files.entry.routine.bytes.now files.entry.world.bytes.now files.entry.call.bytes.now buffer.old ws.old (refused result) (length_in result) buffer.new ws.new }
 {
     let index = setup::set_tables(files.routine, files.world, ws);
     let r = passes::first_pass(files, buffer, ws, index);
@@ -119,7 +120,7 @@ pub fn run(
 
 // A known value or none, and a refusal's number: all 0 but that where there is no value. (The fields that C reads.)
 #[repr(C)]
-#[derive(Clone, Copy)]
+#[derive(Clone, Copy, Default, PartialEq, Eq)]
 pub struct Constant {
     pub refusal: u32,
     pub known: bool,
@@ -132,7 +133,8 @@ pub struct Constant {
 fn known_value(routine: &[u8], node: usize, ws: &mut [u8]) -> Result<Option<Val>, Refusal>
     ensures { ConstantGiven routine.now node ws.old result ws.new }
 {
-    files::check_constant(routine, node)?;
+    let routine = Routine::check(routine)?;
+    routine.check_constant(node)?;
     Refusal::Workspace.unless(workspace::SIZE <= ws.len())?;
     let outcome = passes::evaluation::evaluate(routine, node, ws);
     ws.fill(0);

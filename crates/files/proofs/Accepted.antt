@@ -125,6 +125,10 @@ run r w c h =
     let t = first_none 8 (world_ok w ∷ call_ok c ∷ []) (omega arith) o.1 in
     record { routine = o.0; world = t.0; call = t.1.0 }
 
+pub unrefused : (r w c : List ℕ) → routine_refusal r ≡ 0 → world_ok w ≡ true → call_ok c ≡ true → refusal r w c ≡ 0
+unfolding refusal
+unrefused r w c p q s = simp (p, q, s)
+
 -- a node that `constant_value` accepts
 pub record Constant (r : List ℕ) (n : ℕ) : Type 0 where
   pub routine : routine_refusal r ≡ 0

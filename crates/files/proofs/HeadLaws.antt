@@ -1,16 +1,15 @@
 -- What the tests of a head show. Assumes nothing.
-use mathlib.Core.Path.{◌≡◌, sym, ◌∙◌}
+use mathlib.Core.Path.{◌≡◌}
 use mathlib.Core.Bool.{Bool, true, false, not, and-false}
 use mathlib.Core.List.{List, [], ◌∷◌}
 use Prim.Native.Nat.{ℕ, ◌+◌, ◌-◌, ◌*◌, ◌/◌, ◌%◌, ◌≤◌, ◌<◌}
-use native.Mathlib.Omega.{arith}
-use borrow.Author.Tests.{le-leb, lt-leb, leb-true, ltb-true, eqb-true, not-true, not-false}
+use borrow.Author.Tests.{le-leb, lt-leb, leb-true, ltb-true, eqb-true, not-true}
 use lib.Dec.{leb, ltb, eqb}
 use lib.ListN.{length, get_or}
 use Rattle.layout.specs.Number.{number_at}
 use Rattle.files.specs.Items.{every}
 use Rattle.files.specs.Head.{variable_ok, fixed_ok, head_ok}
-use Rattle.files.proofs.ItemLaws.{every_fails, every_at}
+use Rattle.files.proofs.ItemLaws.{every_at}
 use Rattle.std.proofs.lemmas.Bool.{and_parts}
 use Rattle.files.proofs.BoolLaws.{each_true}
 
@@ -23,14 +22,9 @@ module _ (b : List ℕ) (names types : ℕ) where
   unfolding head_ok
   head_odd t e h = simp (← e, not-true t h, and-false)
 
-  pub head_variable : (t : Bool) (k c : ℕ) → k < c → c ≡ (length b - 13) / 4 → t ≡ variable_ok b names types k → not t ≡ true → false ≡ head_ok b names types
+  pub head_good : 13 ≤ length b → (t u : Bool) → t ≡ fixed_ok b names types → t ≡ true → u ≡ every ((length b - 13) / 4) (variable_ok b names types) → u ≡ head_ok b names types
   unfolding head_ok
-  head_variable t k c l g e h = simp (← g, every_fails (variable_ok b names types) c k l (sym e ∙ not-true t h), and-false)
-
-  pub head_good : 13 ≤ length b → (t : Bool) → t ≡ fixed_ok b names types → not t ≡ false → (k c : ℕ) → c ≡ (length b - 13) / 4 → k ≤ c → c ≤ k
-      → every k (variable_ok b names types) ≡ true → true ≡ head_ok b names types
-  unfolding head_ok
-  head_good l t e h k c q f g a = let p : k ≡ (length b - 13) / 4 = omega arith in simp (le-leb _ _ l, ← e, not-false t h, ← p, a)
+  head_good l t u e h a = simp (le-leb _ _ l, ← e, h, ← a)
 
 -- ---- what an accepted head has
 

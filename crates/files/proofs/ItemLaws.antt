@@ -1,13 +1,22 @@
 -- Loops over a body: items back to back (`read_from`), and what holds of each number (`every`). Assumes nothing.
 use mathlib.Core.Path.{◌≡◌, refl, sym, ap, ◌∙◌}
-use mathlib.Core.Bool.{Bool, true, false, not, cond, ◌&&◌, and-false}
+use mathlib.Core.Bool.{Bool, true, false, cond, ◌&&◌, and-false, and-true}
+use mathlib.Core.List.{[], ◌∷◌, ◌++◌, map}
 use Prim.Native.Nat.{ℕ, zero, suc, ◌+◌, ◌-◌, ◌≤◌, ◌<◌}
 use native.Mathlib.Nat.{not-suc-le-zero}
 use native.Mathlib.Numerals.{add-one}
 use native.Mathlib.Omega.{arith}
-use borrow.Author.Tests.{le-leb, lt-leb, leb-false, ltb-true, ltb-false, not-true, not-false}
+use borrow.Author.Tests.{le-leb, lt-leb, leb-false, ltb-true, ltb-false}
 use lib.Dec.{leb, ltb}
-use Rattle.std.specs.Prelude.{None, Some}
+use denote.Param.Members.{Mut}
+use Rattle.std.specs.Prelude.{Option, None, Some}
+use Rattle.std.specs.Fn.{Called}
+use Rattle.std.specs.Iterator.{ChecksAll}
+use Rattle.std.specs.List.{list_all, range_with_len}
+use Rattle.std.proofs.lemmas.Iterator.{YieldsList}
+use Rattle.std.proofs.lemmas.Iterator.Search.{all_from_yields_List}
+use Rattle.std.proofs.lemmas.List.Folds.{list_all-append, list_all-map}
+use Rattle.std.proofs.lemmas.List.FromFn.{map-range_with_len_more}
 use Rattle.files.specs.Bytes.{one_less}
 use Rattle.files.specs.World.{unless_zero}
 use Rattle.files.specs.Items.{Items, past, reading, read_from, every}
@@ -96,11 +105,23 @@ pub some_length : (n t : ℕ) → Some n ≡ unless_zero t → n ≡ t
 some_length n zero e = cc
 some_length n (suc t) e = cc
 
--- a loop over numbers has every one below its own behind it
+-- what holds of each number below another
 module _ (P : ℕ → Bool) where
-  pub every_more : (n : ℕ) (t : Bool) → every n P ≡ true → t ≡ P n → not t ≡ false → every (n + 1) P ≡ true
+  every_listed : (c : ℕ) → list_all P (range_with_len 0 c) ≡ every c P
   unfolding every
-  every_more n t e g h = rw (add-one, e, ← g, not-false t h)
+  every_listed zero = refl
+  every_listed (suc n) =
+      let more : map P (range_with_len 0 (n + 1)) ≡ map P (range_with_len 0 n) ++ P n ∷ [] = map-range_with_len_more P 0 n n (omega arith) in
+      ap (λ (c : ℕ). list_all P (range_with_len 0 c)) (sym (add-one n))
+      ∙ sym (list_all-map (λ (t : Bool). t) P (range_with_len 0 (n + 1)))
+      ∙ ap (list_all (λ (t : Bool). t)) more
+      ∙ list_all-append (λ (t : Bool). t) (map P (range_with_len 0 n)) (P n ∷ [])
+      ∙ rw (list_all-map (λ (t : Bool). t) P (range_with_len 0 n), every_listed n, and-true) refl
+
+  -- `all` of them, where P is what the test answers
+  pub every_all : {S F : Type 0} {steps : S → Option ℕ → S → Type 0} {g : Mut F (ℕ × Unit {0}) Bool} {s : S} (c : ℕ) (f : F) (u : S) (r : Bool)
+      → ChecksAll steps g s f r u → YieldsList steps (λ x. x) s (range_with_len 0 c) → ((x : ℕ) (t : Bool) (q : F) → Called g f (x, tt) t q → (q ≡ f) × (t ≡ P x)) → r ≡ every c P
+  every_all c f u r d y k = all_from_yields_List P u f r d y k ∙ every_listed c
 
   pub every_fails : (c n : ℕ) → n < c → P n ≡ false → every c P ≡ false
   unfolding every
@@ -110,12 +131,6 @@ module _ (P : ℕ → Bool) where
       go : (t : Bool) → ltb n c ≡ t → (n < c → every c P ≡ false) → (every c P && P c) ≡ false
       go true p ih = rw (ih (ltb-true n c p))
       go false p ih = let q : n ≡ c = omega (arith, ltb-false n c p) in rw (← q, e, and-false)
-
-  pub every_not : (c n : ℕ) (t : Bool) → n < c → t ≡ P n → not t ≡ true → false ≡ every c P
-  every_not c n t h g f = sym (every_fails c n h (sym g ∙ not-true t f))
-
-  pub every_all : (c n : ℕ) → n ≤ c → c ≤ n → every n P ≡ true → true ≡ every c P
-  every_all c n h g e = let q : n ≡ c = omega arith in sym (rw q at e)
 
   -- what holds of each holds of one
   pub every_at : (c n : ℕ) → every c P ≡ true → n < c → P n ≡ true

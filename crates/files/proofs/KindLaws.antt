@@ -6,8 +6,9 @@ use native.Mathlib.Omega.{arith}
 use lib.Dec.{eqb, ltb}
 use lib.ListN.{get_or-eq_default}
 use borrow.Author.Tests.{ltb-true, ltb-false, eqb-true, ne_eqb, eqb-false}
-use Rattle.std.specs.Prelude.{Some, slice_get}
-use Rattle.std.proofs.lemmas.Option.{slice_get_within, get_or_from_slice_get}
+use Rattle.std.specs.Prelude.{Option, None, Some, Ok, ok_or, slice_get, unwrap_or}
+use Rattle.std.specs.Result.{result_unwrap_or}
+use Rattle.std.proofs.lemmas.Option.{slice_get_within, get_or_from_slice_get, unwrap_or-slice_get}
 use Rattle.layout.proofs.ArmLaws.{NoneBelow}
 use Rattle.files.specs.Items.{every}
 use Rattle.files.specs.Nodes.{rules, no_rule, rule_of, ref_below, placed_ok, count_ok}
@@ -57,10 +58,23 @@ module _ (k : ℕ) where
 
 -- ---- a number that is a kind's, and one that is none's
 
-pub kind_there : (k : ℕ) (κ : Kind) → Some κ ≡ slice_get kinds k → (k < 20) × (number_of κ ≡ k)
-kind_there k κ e =
-    let l : k < 20 = slice_get_within kinds k κ (sym e) in
-    (l, ap number_of (sym (get_or_from_slice_get kinds k κ Plain (sym e))) ∙ numbered k l)
+-- what is tried from a number is a kind, or an error
+pub kind_there : {E : Type 0} (k : ℕ) (κ : Kind) (e : E) → Ok κ ≡ ok_or (slice_get kinds k) e → (k < 20) × (number_of κ ≡ k)
+kind_there k κ e h = go (slice_get kinds k) refl h
+  where
+    go : (o : Option Kind) → slice_get kinds k ≡ o → Ok κ ≡ ok_or o e → (k < 20) × (number_of κ ≡ k)
+    go None p q = absurd (cc)
+    go (Some j) p q =
+        let l : k < 20 = slice_get_within kinds k j p in
+        let same : κ ≡ j = cc in
+        (l, ap number_of (same ∙ sym (get_or_from_slice_get kinds k j Plain p)) ∙ numbered k l)
+
+pub kind_or_plain : {E : Type 0} (k : ℕ) (e : E) → result_unwrap_or (ok_or (slice_get kinds k) e) Plain ≡ kind_numbered k
+kind_or_plain k e = go (slice_get kinds k) ∙ unwrap_or-slice_get kinds k Plain
+  where
+    go : (o : Option Kind) → result_unwrap_or (ok_or o e) Plain ≡ unwrap_or o Plain
+    go None = refl
+    go (Some j) = refl
 
 -- ---- what a reference is
 

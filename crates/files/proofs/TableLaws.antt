@@ -1,6 +1,6 @@
 -- What the tests of a file's table show, and that an accepted table's bodies lie in the file. Assumes nothing.
 use mathlib.Core.Path.{◌≡◌, refl, sym, ap, ◌∙◌}
-use mathlib.Core.Bool.{Bool, true, false, not, and-false}
+use mathlib.Core.Bool.{Bool, true, false, and-false}
 use mathlib.Core.List.{List, [], ◌∷◌}
 use Prim.Native.Nat.{ℕ, zero, suc, ◌+◌, ◌-◌, ◌*◌, ◌≤◌, ◌<◌}
 use native.Mathlib.Nat.{zero-add, suc-add}
@@ -8,10 +8,10 @@ use native.Mathlib.Numerals.{add-one}
 use native.Mathlib.Omega.{arith}
 use borrow.Author.Tests.{le-leb, lt-leb, eq-eqb, ne_eqb, leb-true, eqb-true}
 use lib.Dec.{leb, eqb}
-use lib.ListN.{length}
-use Rattle.layout.specs.Number.{number_at}
+use lib.ListN.{length, take, drop}
+use Rattle.layout.specs.Number.{number_at, located}
 use Rattle.files.specs.Items.{every}
-use Rattle.files.specs.FileTable.{offset_of, length_of, HasBody, start_of, body_ok, table_ok}
+use Rattle.files.specs.FileTable.{offset_of, length_of, body, HasBody, start_of, body_ok, table_ok}
 use Rattle.files.proofs.BoolLaws.{each_true}
 use Rattle.files.proofs.ItemLaws.{every_fails, every_at}
 
@@ -32,25 +32,24 @@ module _ (n : ℕ) (f : List ℕ) where
   unfolding table_ok body_ok
   table_gap k s e l es ee h = simp (every_fails (body_ok n f) n k l (ne_eqb _ _ (λ q. h (es ∙ q ∙ sym ee))), and-false)
 
-  pub table_on : (k s e : ℕ) → every k (body_ok n f) ≡ true → s ≡ offset_of f k → e ≡ start_of n f k → s ≡ e → every (k + 1) (body_ok n f) ≡ true
+  pub table_on : (k : ℕ) → every k (body_ok n f) ≡ true → offset_of f k ≡ start_of n f k → every (k + 1) (body_ok n f) ≡ true
   unfolding every body_ok
-  table_on k s e a es ee h = rw (add-one, a, eq-eqb _ _ (sym es ∙ h ∙ ee))
+  table_on k a h = rw (add-one, a, eq-eqb _ _ h)
 
-  pub table_next : (k s l : ℕ) → s ≡ offset_of f k → l ≡ length_of f k → s + l ≡ start_of n f (k + 1)
+  pub table_next : (k : ℕ) → start_of n f (k + 1) ≡ offset_of f k + length_of f k
   unfolding start_of
-  table_next k s l es el = rw (add-one, es, el)
+  table_next k = rw add-one
 
   pub table_start : n * 4 + 2 ≡ start_of n f 0
   unfolding start_of
   table_start = refl
 
-  pub table_ends : length f ≤ 65535 → n * 4 + 2 ≤ length f → (c : ℕ) → c ≡ number_at f 0 2 → c ≡ n → (k : ℕ) → k ≤ n → n ≤ k → every k (body_ok n f) ≡ true → (e : ℕ) → e ≡ start_of n f k → eqb e (length f) ≡ table_ok n f
+  pub table_ends : (k : ℕ) → length f ≤ 65535 → n * 4 + 2 ≤ length f → number_at f 0 2 ≡ n → k ≤ n → n ≤ k → every k (body_ok n f) ≡ true → table_ok n f ≡ eqb (start_of n f k) (length f)
   unfolding table_ok
-  table_ends h₁ h₂ c g q k l u a e ee =
+  table_ends k h g q l u a =
       let p : k ≡ n = omega arith in
-      let a' : every n (body_ok n f) ≡ true = rw p at a in
-      let e' : e ≡ start_of n f n = rw p at ee in
-      simp (le-leb _ _ h₁, le-leb _ _ h₂, eq-eqb _ _ (sym g ∙ q), a') (ap (λ (x : ℕ). eqb x (length f)) e')
+      let b : every n (body_ok n f) ≡ true = rw p at a in
+      rw p (simp (le-leb _ _ h, le-leb _ _ g, eq-eqb _ _ q, b))
 
 -- ---- what an accepted table tells of its bodies
 
@@ -88,5 +87,23 @@ has_body n f h k l =
     let t = table_has n f h in
     record { told = omega (arith, t.room); within = body_within n f t k l }
 
-pub checked_body : (n : ℕ) (f : List ℕ) (t : Bool) → t ≡ table_ok n f → t ≡ true → (k : ℕ) → k < n → HasBody f k
-checked_body n f t e h k l = has_body n f (sym e ∙ h) k l
+-- the same of each file, where its number of bodies is known
+pub routine_has : (f : List ℕ) → table_ok 6 f ≡ true → HasBody f 0 × HasBody f 1 × HasBody f 2 × HasBody f 3 × HasBody f 4 × HasBody f 5
+routine_has f h =
+    let has : (k : ℕ) → k < 6 → HasBody f k = has_body 6 f h in
+    (has 0 (omega arith), has 1 (omega arith), has 2 (omega arith), has 3 (omega arith), has 4 (omega arith), has 5 (omega arith))
+
+pub world_has : (f : List ℕ) → table_ok 3 f ≡ true → HasBody f 0 × HasBody f 1 × HasBody f 2
+world_has f h =
+    let has : (k : ℕ) → k < 3 → HasBody f k = has_body 3 f h in
+    (has 0 (omega arith), has 1 (omega arith), has 2 (omega arith))
+
+pub call_has : (f : List ℕ) → table_ok 1 f ≡ true → HasBody f 0
+call_has f h = has_body 1 f h 0 (omega arith)
+
+-- what a body's pair of numbers locates
+pub body_located : (f : List ℕ) (k : ℕ) → located f (k * 4 + 2) 2 ≡ body f k
+unfolding body located
+body_located f k =
+    let place : k * 4 + 2 + 2 ≡ k * 4 + 4 = omega arith in
+    rw place (ap (λ (n : ℕ). take n (drop (offset_of f k) f)) {x = length_of f k} {y = offset_of f k + length_of f k - offset_of f k} (omega arith))

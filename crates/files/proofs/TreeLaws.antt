@@ -75,27 +75,20 @@ module _ (b : List ℕ) where
   unfolding trees
   same_parent depth p q n e c h = same_parent_from (suc (length b)) depth p q n e c h
 
+-- all are read
+module _ (b : List ℕ) (depth parent n e c : ℕ) where
+  pub trees_end : e ≤ n → trees b depth parent n e c ≡ c + 1
+  unfolding trees
+  trees_end l = rw (one_turn b (length b) depth parent n e c, le-leb e n l)
+
 -- at a place of a loop: the answer a is what the trees from there on give
 module _ (b : List ℕ) (depth parent n e c a : ℕ) (h : a ≡ trees b depth parent n e c) where
-  pub trees_end : e ≤ n → c + 1 ≡ a
-  unfolding trees
-  trees_end l = sym (h ∙ rw (one_turn b (length b) depth parent n e c, le-leb e n l))
-
   -- where the first tree's node is not as it must be
   unplaced : n < e → node_ok b depth parent n e ≡ false → 0 ≡ a
   unfolding trees
   unplaced l z = sym (h ∙ rw (one_turn b (length b) depth parent n e c, lt-leb e n l, z))
 
-  pub trees_deep : n < e → depth < 1 → 0 ≡ a
-  trees_deep l d = unplaced l (simp (lt-leb _ _ d))
-
   module _ (s : ℕ) (es : s ≡ span_of b n) where
-    pub trees_empty : n < e → s < 1 → 0 ≡ a
-    trees_empty l d = unplaced l (simp (← es, lt-leb _ _ d, and-false))
-
-    pub trees_long : n < e → e - n < s → 0 ≡ a
-    trees_long l d = unplaced l (simp (← es, lt-leb _ _ d, and-false))
-
     module _ (k : ℕ) (ek : k ≡ kind_of b n) where
       pub trees_odd : n < e → (t : Bool) → t ≡ placed_ok k parent → t ≡ false → 0 ≡ a
       trees_odd l t et g = unplaced l (simp (← ek, ← et, g, and-false))
@@ -118,6 +111,17 @@ module _ (b : List ℕ) (depth parent n e c a : ℕ) (h : a ≡ trees b depth pa
         unfolding trees
         trees_on g = goes ∙ simp g (sym (more b (length b) depth parent (n + s) e (c + 1) (omega arith)))
 
+-- the first one is refused at once
+module _ (b : List ℕ) (depth parent n e c : ℕ) where
+  pub trees_deep : n < e → depth < 1 → trees b depth parent n e c ≡ 0
+  trees_deep l d = sym (unplaced b depth parent n e c _ refl l (simp (lt-leb _ _ d)))
+
+  pub trees_empty : n < e → span_of b n < 1 → trees b depth parent n e c ≡ 0
+  trees_empty l d = sym (unplaced b depth parent n e c _ refl l (simp (lt-leb _ _ d, and-false)))
+
+  pub trees_long : n < e → e - n < span_of b n → trees b depth parent n e c ≡ 0
+  trees_long l d = sym (unplaced b depth parent n e c _ refl l (simp (lt-leb _ _ d, and-false)))
+
 -- a node that is its whole span has no children that could be wrong
 pub no_kids : (b : List ℕ) (depth parent n s j : ℕ) → s ≤ 1 → j ≡ 1 → j ≡ trees b depth parent (n + 1) (n + s) 0
-no_kids b depth parent n s j l e = e ∙ trees_end b depth parent (n + 1) (n + s) 0 _ refl (omega arith)
+no_kids b depth parent n s j l e = e ∙ sym (trees_end b depth parent (n + 1) (n + s) 0 (omega arith))

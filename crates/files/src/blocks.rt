@@ -13,6 +13,9 @@ pub const BLOCK: usize = 24;
 
 pub const CASE: usize = 12;
 
+// The number of a Switch, the last of the four terminators.
+const SWITCH: u8 = 3;
+
 // An address has its flag, or is 0.
 fn is_address(flag: u8, at: u64) -> bool
     ensures { result ≡ address_ok flag at }
@@ -32,7 +35,7 @@ fn check_statement(nodes: &[u8], b: &[u8], k: usize) -> bool
     is_address(flag, at) & nodes::is_root(nodes, root)
 }
 
-#[tactic(auto, using(crate::proofs::BlockLaws::statements_odd, crate::proofs::BlockLaws::statements_not, crate::proofs::ItemLaws::every_more, crate::proofs::BlockLaws::statements_good), unfolding(crate::specs::Items::every))]
+#[tactic(auto, using(crate::proofs::BlockLaws::statements_odd))]
 fn check_statements(nodes: &[u8], b: &[u8]) -> bool
     ensures { result ≡ statements_ok nodes.now b.now }
 {
@@ -40,12 +43,7 @@ fn check_statements(nodes: &[u8], b: &[u8]) -> bool
         return false;
     }
     let count = b.len() / STATEMENT;
-    for k in 0..count {
-        if !check_statement(nodes, b, k) {
-            return false;
-        }
-    }
-    true
+    (0..count).all(|k| check_statement(nodes, b, k))
 }
 
 // Whether a terminator has its address, root, taken and next, and 0 for those that are not its. (Its kind as the number that it has in the file: kinds from 2 on
@@ -61,7 +59,7 @@ fn is_terminator(
 ) -> bool
     ensures { result ≡ terminator_ok kind flag at root taken next rooted }
 {
-    (kind <= 3)
+    (kind <= SWITCH)
         & is_address(flag, at)
         & ((2 <= kind) | (flag == 0))
         & ((2 <= kind) | (root == 0))
@@ -85,18 +83,18 @@ fn check_block(nodes: &[u8], b: &[u8], i: usize) -> bool
     is_terminator(kind, flag, at, root, taken, next, rooted)
 }
 
-// The bytes of a block's cases: only a Switch, whose number is 3, has some.
-fn cases(b: &[u8], i: usize) -> usize
+// The bytes of a block's cases, 0 where it has none: only a Switch has some.
+pub fn cases(b: &[u8], i: usize) -> usize
     requires { i + 24 ≤ length b.now }
     ensures { (result ≡ cases_of (get_or b.now (i + 2) 0) (number_at b.now (i + 16) 4)) × (result < 51539607552) }
 {
-    if b[i + 2] != 3 {
+    if b[i + 2] != SWITCH {
         return 0;
     }
     layout::get::<4>(b, i + 16) as usize * CASE
 }
 
-// The length of the block at i, where `left` statements are not dealt yet.
+// The length of the block at i, where `left` statements are not dealt yet. (i is a place in the whole body, as in the definition that the contract names.)
 #[tactic(auto, using(crate::proofs::ItemLaws::some_there), unfolding(crate::specs::Blocks::block_at))]
 fn block_at(nodes: &[u8], b: &[u8], left: usize, i: usize) -> Option<usize>
     requires { i < length b.now }

@@ -1,6 +1,6 @@
 // A call's body: the limits of a run, and its arguments.
 ghost use Rattle.std.specs.Prelude.{◌≡◌, ◌<◌, ◌≤◌, length, get_or};
-ghost use Rattle.files.specs.Call.{call_body_ok, limits_in, usual};
+ghost use Rattle.files.specs.Call.{call_body_ok, limits_in};
 
 #[derive(Clone, Copy)]
 pub struct Limits {
@@ -13,24 +13,17 @@ impl Limits {
     pub const STEPS: u32 = 10_000;
 
     pub const DEPTH: u32 = 8;
+}
 
-    pub fn usual() -> Self
-        ensures { (result.steps ≡ usual.steps) × (result.depth ≡ usual.depth) }
-    {
+impl Default for Limits {
+    ghost use Rattle.files.specs.Call.{usual};
+
+    ghost is_default = { λ l. (l.steps ≡ usual.steps) × (l.depth ≡ usual.depth) };
+
+    fn default() -> Self {
         Self {
             steps: Limits::STEPS,
             depth: Limits::DEPTH,
-        }
-    }
-
-    // The limits that a call's body gives.
-    pub fn of(b: &[u8]) -> Self
-        requires { 8 ≤ length b.now }
-        ensures { (result.steps ≡ (limits_in b.now).steps) × (result.depth ≡ (limits_in b.now).depth) }
-    {
-        Self {
-            steps: layout::get::<4>(b, 0) as u32,
-            depth: layout::get::<4>(b, 4) as u32,
         }
     }
 }
@@ -47,21 +40,39 @@ const ARGUMENT: usize = 8;
 
 const LONGEST: usize = 136;
 
-// How many arguments there are.
-#[tactic(auto, using(crate::proofs::ListedLaws::length_listed))]
-pub fn arguments(b: &[u8]) -> usize
-    requires { 8 ≤ length b.now }
-    ensures { result ≡ length (limits_in b.now).arguments }
-{
-    (b.len() - FIXED) / ARGUMENT
+// A body that is long enough for the limits, behind which the arguments stand.
+#[derive(Clone, Copy)]
+pub struct Body<'a> {
+    pub bytes: &'a [u8],
+    pub ghost long: { 8 ≤ length bytes.now },
 }
 
-#[tactic(auto, using(crate::proofs::ListedLaws::length_listed))]
-pub fn argument(b: &[u8], i: usize) -> u64
-    requires { i < length (limits_in b.now).arguments }
-    ensures { result ≡ get_or (limits_in b.now).arguments i 0 }
-{
-    layout::get::<8>(b, i * ARGUMENT + FIXED)
+impl Body<'_> {
+    pub fn limits(self) -> Limits
+        ensures { (result.steps ≡ (limits_in self.entry.bytes.now).steps) × (result.depth ≡ (limits_in self.entry.bytes.now).depth) }
+    {
+        Limits {
+            steps: layout::get::<4>(self.bytes, 0) as u32,
+            depth: layout::get::<4>(self.bytes, 4) as u32,
+        }
+    }
+
+    // How many arguments there are.
+    #[tactic(auto, using(crate::proofs::ListedLaws::length_listed))]
+    pub fn argument_count(self) -> usize
+        ensures { result ≡ length (limits_in self.entry.bytes.now).arguments }
+    {
+        (self.bytes.len() - FIXED) / ARGUMENT
+    }
+
+    // Argument k.
+    #[tactic(auto, using(crate::proofs::ListedLaws::length_listed))]
+    pub fn argument(self, k: usize) -> u64
+        requires { k < length (limits_in self.bytes.now).arguments }
+        ensures { result ≡ get_or (limits_in self.entry.bytes.now).arguments k 0 }
+    {
+        layout::get::<8>(self.bytes, k * ARGUMENT + FIXED)
+    }
 }
 
 #[tactic(auto, unfolding(crate::specs::Call::call_body_ok))]
@@ -71,7 +82,7 @@ pub fn check(b: &[u8]) -> bool
     if b.len() < FIXED {
         return false;
     }
-    let limits = Limits::of(b);
+    let limits = Body { bytes: b }.limits();
     (b.len() <= LONGEST)
         & (b.len() % ARGUMENT == 0)
         & (limits.steps <= MOST_STEPS)

@@ -2,57 +2,54 @@
 ghost use Rattle.std.specs.Prelude.{◌≡◌, ◌+◌, ◌*◌, ◌<◌, ◌≤◌, length};
 ghost use Rattle.files.specs.Head.{variable_ok, fixed_ok, head_ok};
 
-// The bytes before the variables, and those of a variable.
-const FIXED: usize = 13;
+use crate::kinds::Bounds;
 
-const VARIABLE: usize = 4;
+// The bytes before the variables, and those of a variable.
+pub const FIXED: usize = 13;
+
+pub const VARIABLE: usize = 4;
 
 // The most parameters.
 const PARAMETERS: u8 = 16;
 
 // Whether variable k has a name and a type.
 #[tactic(auto, unfolding(crate::specs::Head::variable_ok))]
-fn check_variable(b: &[u8], k: usize, names: usize, types: usize) -> bool
+fn check_variable(b: &[u8], k: usize, bounds: Bounds) -> bool
     requires { k * 4 + 17 ≤ length b.now }
-    ensures { result ≡ variable_ok b.now names types k }
+    ensures { result ≡ variable_ok b.now bounds.names bounds.types k }
 {
-    let name = layout::get::<2>(b, k * VARIABLE + 13) as usize;
-    let kind = layout::get::<2>(b, k * VARIABLE + 15) as usize;
-    (name < names) & (kind < types)
+    let name = layout::get::<2>(b, k * VARIABLE + FIXED) as usize;
+    let kind = layout::get::<2>(b, k * VARIABLE + FIXED + 2) as usize;
+    (name < bounds.names) & (kind < bounds.types)
 }
 
 // Whether what stands before the variables is as it must be.
 #[tactic(auto, unfolding(crate::specs::Head::fixed_ok))]
-fn check_fixed(b: &[u8], names: usize, types: usize) -> bool
+fn check_fixed(b: &[u8], bounds: Bounds) -> bool
     requires { 13 ≤ length b.now }
-    ensures { result ≡ fixed_ok b.now names types }
+    ensures { result ≡ fixed_ok b.now bounds.names bounds.types }
 {
     let rest = b.len() - FIXED;
     let name = layout::get::<2>(b, 0) as usize;
     let kind = layout::get::<2>(b, 10) as usize;
     let parameters = b[12];
     (rest % VARIABLE == 0)
-        & (name < names)
-        & (kind < types)
+        & (name < bounds.names)
+        & (kind < bounds.types)
         & (parameters <= PARAMETERS)
         & (parameters as usize <= rest / VARIABLE)
 }
 
-#[tactic(auto, using(crate::proofs::HeadLaws::head_short, crate::proofs::HeadLaws::head_odd, crate::proofs::HeadLaws::head_variable, crate::proofs::ItemLaws::every_more, crate::proofs::HeadLaws::head_good), unfolding(crate::specs::Items::every))]
-pub fn check(b: &[u8], names: usize, types: usize) -> bool
-    ensures { result ≡ head_ok b.now names types }
+#[tactic(auto, using(crate::proofs::HeadLaws::head_short, crate::proofs::HeadLaws::head_odd))]
+pub fn check(b: &[u8], bounds: Bounds) -> bool
+    ensures { result ≡ head_ok b.now bounds.names bounds.types }
 {
     if b.len() < FIXED {
         return false;
     }
-    if !check_fixed(b, names, types) {
+    if !check_fixed(b, bounds) {
         return false;
     }
     let count = (b.len() - FIXED) / VARIABLE;
-    for k in 0..count {
-        if !check_variable(b, k, names, types) {
-            return false;
-        }
-    }
-    true
+    (0..count).all(|k| check_variable(b, k, bounds))
 }

@@ -1,105 +1,77 @@
 // The kinds of nodes, and what a kind lets a node be.
-ghost use Rattle.std.specs.Prelude.{◌≡◌, ◌==◌, slice_get};
+ghost use Rattle.std.specs.Prelude.{◌≡◌, ok_or, slice_get};
 ghost use Rattle.files.specs.Nodes.{rule, rule_of};
 ghost use Rattle.files.specs.Program.{kinds, number_of};
 ghost use Rattle.files.specs.Rules.{row};
 
-// In the order of their numbers.
+// Each with its number in the file.
 #[derive(Clone, Copy, PartialEq, Eq)]
 pub enum Kind {
-    Constant,
-    Var,
-    Register,
-    StringLiteral,
-    FunctionName,
-    ConditionTrue,
-    ConditionFalse,
-    ConstantCondition,
-    Cast,
-    Deref,
-    AddressOf,
-    Ternary,
-    Binary,
-    Assign,
-    Call,
-    Intrinsic,
-    Return,
-    StructInit,
+    Constant = 0,
+    Var = 1,
+    Register = 2,
+    StringLiteral = 3,
+    FunctionName = 4,
+    ConditionTrue = 5,
+    ConditionFalse = 6,
+    ConstantCondition = 7,
+    Cast = 8,
+    Deref = 9,
+    AddressOf = 10,
+    Ternary = 11,
+    Binary = 12,
+    Assign = 13,
+    Call = 14,
+    Intrinsic = 15,
+    Return = 16,
+    StructInit = 17,
     // a field of a StructInit
-    Field,
+    Field = 18,
     // a plain statement
-    Plain,
+    Plain = 19,
 }
 
 impl From<Kind> for u8 {
     ghost from_gives = { λ kind n. n ≡ number_of kind };
 
     fn from(kind: Kind) -> u8 {
-        match kind {
-            Kind::Constant => 0,
-            Kind::Var => 1,
-            Kind::Register => 2,
-            Kind::StringLiteral => 3,
-            Kind::FunctionName => 4,
-            Kind::ConditionTrue => 5,
-            Kind::ConditionFalse => 6,
-            Kind::ConstantCondition => 7,
-            Kind::Cast => 8,
-            Kind::Deref => 9,
-            Kind::AddressOf => 10,
-            Kind::Ternary => 11,
-            Kind::Binary => 12,
-            Kind::Assign => 13,
-            Kind::Call => 14,
-            Kind::Intrinsic => 15,
-            Kind::Return => 16,
-            Kind::StructInit => 17,
-            Kind::Field => 18,
-            Kind::Plain => 19,
-        }
+        kind as u8
     }
 }
 
-impl Kind {
-    // The kind of a number; none past the last.
-    pub fn of(number: u8) -> Option<Kind>
-        ensures { result ≡ slice_get kinds number }
-    {
+// A number that is no kind's.
+#[derive(Clone, Copy, PartialEq, Eq)]
+pub struct UnknownKind(pub u8);
+
+impl TryFrom<u8> for Kind {
+    type Error = UnknownKind;
+
+    ghost try_from_gives = { λ number kind. kind ≡ ok_or (slice_get kinds number) (record { 0 = number }) };
+
+    fn try_from(number: u8) -> Result<Kind, UnknownKind> {
         match number {
-            0 => Some(Kind::Constant),
-            1 => Some(Kind::Var),
-            2 => Some(Kind::Register),
-            3 => Some(Kind::StringLiteral),
-            4 => Some(Kind::FunctionName),
-            5 => Some(Kind::ConditionTrue),
-            6 => Some(Kind::ConditionFalse),
-            7 => Some(Kind::ConstantCondition),
-            8 => Some(Kind::Cast),
-            9 => Some(Kind::Deref),
-            10 => Some(Kind::AddressOf),
-            11 => Some(Kind::Ternary),
-            12 => Some(Kind::Binary),
-            13 => Some(Kind::Assign),
-            14 => Some(Kind::Call),
-            15 => Some(Kind::Intrinsic),
-            16 => Some(Kind::Return),
-            17 => Some(Kind::StructInit),
-            18 => Some(Kind::Field),
-            19 => Some(Kind::Plain),
-            _ => None,
+            0 => Ok(Kind::Constant),
+            1 => Ok(Kind::Var),
+            2 => Ok(Kind::Register),
+            3 => Ok(Kind::StringLiteral),
+            4 => Ok(Kind::FunctionName),
+            5 => Ok(Kind::ConditionTrue),
+            6 => Ok(Kind::ConditionFalse),
+            7 => Ok(Kind::ConstantCondition),
+            8 => Ok(Kind::Cast),
+            9 => Ok(Kind::Deref),
+            10 => Ok(Kind::AddressOf),
+            11 => Ok(Kind::Ternary),
+            12 => Ok(Kind::Binary),
+            13 => Ok(Kind::Assign),
+            14 => Ok(Kind::Call),
+            15 => Ok(Kind::Intrinsic),
+            16 => Ok(Kind::Return),
+            17 => Ok(Kind::StructInit),
+            18 => Ok(Kind::Field),
+            19 => Ok(Kind::Plain),
+            _ => Err(UnknownKind(number)),
         }
-    }
-
-    pub(crate) fn is_field(self) -> bool
-        ensures { result ≡ (number_of self == 18) }
-    {
-        self == Kind::Field
-    }
-
-    pub(crate) fn is_struct(self) -> bool
-        ensures { result ≡ (number_of self == 17) }
-    {
-        self == Kind::StructInit
     }
 }
 
@@ -110,6 +82,13 @@ pub enum Refers {
     ToName,
     ToType,
     ToIndex,
+}
+
+// How many names and types a routine has: what a reference to one is below.
+#[derive(Clone, Copy)]
+pub struct Bounds {
+    pub names: usize,
+    pub types: usize,
 }
 
 // What a kind lets a node be: the flag's most, what the reference is, the width's least and most, the value's most, the least and the most children.
@@ -163,11 +142,13 @@ impl Rule {
             ..self
         }
     }
+}
+
+impl From<Kind> for Rule {
+    ghost from_gives = { λ kind r. r ≡ row (rule_of (number_of kind)) };
 
     #[tactic(auto, unfolding(crate::specs::Nodes::rule_of))]
-    pub fn of(kind: Kind) -> Rule
-        ensures { result ≡ row (rule_of (number_of kind)) }
-    {
+    fn from(kind: Kind) -> Rule {
         let none = Rule::bare(0, Refers::Nothing, 0);
         match kind {
             Kind::Constant => Rule::bare(0, Refers::Nothing, ANY64).width(1, 8),

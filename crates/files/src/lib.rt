@@ -3,6 +3,7 @@
 
 pub mod blocks;
 pub mod call;
+pub mod checked;
 pub mod head;
 pub mod kinds;
 pub mod names;
@@ -15,8 +16,11 @@ pub mod world;
 ghost use Rattle.std.specs.Prelude.{◌≡◌};
 ghost use Rattle.files.specs.Refusal.{bodies_refusal, routine_refusal, world_ok, call_ok, refusal, refused, constant_refusal};
 
+use checked::{Call, Routine, World};
+use kinds::Bounds;
 use names::Texts;
 use refusal::Refusal;
+use table::body;
 
 const ROUTINE: usize = 6;
 
@@ -35,51 +39,52 @@ fn check_bodies(
 ) -> Result<(), Refusal>
     ensures { refused result ≡ bodies_refusal names.now types.now head.now nodes.now statements.now blocks.now }
 {
-    let n = names::count(names, Texts::NAMES).ok_or(Refusal::Names)?;
-    let t = names::count(types, Texts::TYPES).ok_or(Refusal::Types)?;
-    Refusal::Head.unless(head::check(head, n, t))?;
-    Refusal::Fields.unless(nodes::check(nodes, n, t))?;
+    let bounds = Bounds {
+        names: names::count(names, Texts::NAMES).ok_or(Refusal::Names)?,
+        types: names::count(types, Texts::TYPES).ok_or(Refusal::Types)?,
+    };
+    Refusal::Head.unless(head::check(head, bounds))?;
+    Refusal::Fields.unless(nodes::check(nodes, bounds))?;
     Refusal::Trees.unless(trees::check(nodes))?;
     Refusal::Blocks.unless(blocks::check(nodes, statements, blocks))
 }
 
 // What a routine file is refused by.
-#[tactic(auto, unfolding(crate::specs::Refusal::routine_refusal))]
+#[tactic(auto, using(crate::proofs::TableLaws::routine_has), unfolding(crate::specs::Refusal::routine_refusal))]
 pub fn check_routine(routine: &[u8]) -> Result<(), Refusal>
     ensures { refused result ≡ routine_refusal routine.now }
 {
     Refusal::RoutineTable.unless(table::check(routine, ROUTINE))?;
-    let names = table::body(routine, 0);
-    let types = table::body(routine, 1);
-    let head = table::body(routine, 2);
-    let nodes = table::body(routine, 3);
-    let statements = table::body(routine, 4);
-    let blocks = table::body(routine, 5);
+    let names = body(routine, Routine::NAMES);
+    let types = body(routine, Routine::TYPES);
+    let head = body(routine, Routine::HEAD);
+    let nodes = body(routine, Routine::NODES);
+    let statements = body(routine, Routine::STATEMENTS);
+    let blocks = body(routine, Routine::BLOCKS);
     check_bodies(names, types, head, nodes, statements, blocks)
 }
 
-#[tactic(auto, unfolding(crate::specs::Refusal::world_ok))]
+#[tactic(auto, using(crate::proofs::TableLaws::world_has), unfolding(crate::specs::Refusal::world_ok))]
 pub fn check_world(world: &[u8]) -> bool
     ensures { result ≡ world_ok world.now }
 {
     if !table::check(world, WORLD) {
         return false;
     }
-    let names = table::body(world, 0);
-    let symbols = table::body(world, 1);
-    let regions = table::body(world, 2);
+    let names = body(world, World::NAMES);
+    let symbols = body(world, World::SYMBOLS);
+    let regions = body(world, World::REGIONS);
     world::check(names, symbols, regions)
 }
 
-#[tactic(auto, unfolding(crate::specs::Refusal::call_ok))]
+#[tactic(auto, using(crate::proofs::TableLaws::call_has), unfolding(crate::specs::Refusal::call_ok))]
 pub fn check_call(call: &[u8]) -> bool
     ensures { result ≡ call_ok call.now }
 {
     if !table::check(call, CALL) {
         return false;
     }
-    let limits = table::body(call, 0);
-    call::check(limits)
+    call::check(body(call, Call::BODY))
 }
 
 // What the three files are refused by.
@@ -87,9 +92,10 @@ pub fn check_call(call: &[u8]) -> bool
 pub fn check(routine: &[u8], world: &[u8], call: &[u8]) -> Result<(), Refusal>
     ensures { refused result ≡ refusal routine.now world.now call.now }
 {
-    check_routine(routine)?;
-    Refusal::World.unless(check_world(world))?;
-    Refusal::Call.unless(check_call(call))
+    Routine::check(routine)?;
+    World::check(world)?;
+    Call::check(call)?;
+    Ok(())
 }
 
 // What a routine file and a node of it are refused by.
@@ -97,7 +103,5 @@ pub fn check(routine: &[u8], world: &[u8], call: &[u8]) -> Result<(), Refusal>
 pub fn check_constant(routine: &[u8], node: usize) -> Result<(), Refusal>
     ensures { refused result ≡ constant_refusal routine.now node }
 {
-    check_routine(routine)?;
-    let nodes = table::body(routine, 3);
-    Refusal::Call.unless(nodes::is_root(nodes, node))
+    Routine::check(routine)?.check_constant(node)
 }

@@ -6,7 +6,7 @@ ghost use Rattle.files.specs.Nodes.{kind_of, flag_of, ref_of, width_of, span_of,
 ghost use Rattle.files.specs.Program.{kind_numbered, number_of};
 ghost use Rattle.files.specs.Rules.{refers_number};
 
-use crate::kinds::{Kind, Refers, Rule};
+use crate::kinds::{Bounds, Kind, Refers, Rule};
 
 // The bytes of a node.
 pub const SIZE: usize = 20;
@@ -28,11 +28,12 @@ pub fn is(nodes: &[u8], n: usize, kind: Kind) -> bool
 }
 
 // The kind of a node; a plain statement where its number is none's.
+#[tactic(auto, using(crate::proofs::KindLaws::kind_or_plain))]
 pub fn kind(nodes: &[u8], n: usize) -> Kind
     requires { n * 20 + 20 ≤ length nodes.now }
     ensures { result ≡ kind_numbered (kind_of nodes.now n) }
 {
-    Kind::of(kind_number(nodes, n)).unwrap_or(Kind::Plain)
+    Kind::try_from(kind_number(nodes, n)).unwrap_or(Kind::Plain)
 }
 
 pub fn flag(nodes: &[u8], n: usize) -> u8
@@ -72,43 +73,37 @@ pub fn value(nodes: &[u8], n: usize) -> u64
 }
 
 // Whether a reference is below its bound, by an answer for each thing that a reference can be: a branch would be guessed wrong where kinds alternate.
-fn is_below(refers: Refers, r: usize, names: usize, types: usize) -> bool
-    ensures { result ≡ ltb r (ref_below (refers_number refers) names types) }
+fn is_below(refers: Refers, r: usize, bounds: Bounds) -> bool
+    ensures { result ≡ ltb r (ref_below (refers_number refers) bounds.names bounds.types) }
 {
-    let below = [r < 1, r < names, r < types, r < 65536];
+    let below = [r < 1, r < bounds.names, r < bounds.types, r < 65536];
     below[refers as usize]
 }
 
 // Whether node n has a kind, and each field is what the kind lets it be.
 #[tactic(auto, unfolding(crate::specs::Nodes::field_ok))]
-fn check_node(b: &[u8], n: usize, names: usize, types: usize) -> bool
+fn check_node(b: &[u8], n: usize, bounds: Bounds) -> bool
     requires { n * 20 + 20 ≤ length b.now }
-    ensures { result ≡ field_ok b.now names types n }
+    ensures { result ≡ field_ok b.now bounds.names bounds.types n }
 {
-    let Some(kind) = Kind::of(kind_number(b, n)) else {
+    let Ok(kind) = Kind::try_from(kind_number(b, n)) else {
         return false;
     };
-    let rule = Rule::of(kind);
+    let rule = Rule::from(kind);
     let f = flag(b, n);
     let r = reference(b, n);
     let w = width(b, n);
     let v = value(b, n);
-    let below = is_below(rule.refers, r, names, types);
+    let below = is_below(rule.refers, r, bounds);
     (f <= rule.flag) & below & (rule.narrow <= w) & (w <= rule.wide) & (v <= rule.value)
 }
 
 // Whether each whole node is as its kind lets it be.
-#[tactic(auto, using(crate::proofs::ItemLaws::every_more, crate::proofs::ItemLaws::every_all), unfolding(crate::specs::Items::every, crate::specs::Nodes::fields_ok))]
-pub fn check(b: &[u8], names: usize, types: usize) -> bool
-    ensures { result ≡ fields_ok b.now names types }
+pub fn check(b: &[u8], bounds: Bounds) -> bool
+    ensures { result ≡ fields_ok b.now bounds.names bounds.types }
 {
     let count = b.len() / SIZE;
-    for n in 0..count {
-        if !check_node(b, n, names, types) {
-            return false;
-        }
-    }
-    true
+    (0..count).all(|n| check_node(b, n, bounds))
 }
 
 // Whether n is a node and no field.

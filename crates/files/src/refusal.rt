@@ -5,38 +5,25 @@ ghost use Rattle.files.specs.Refusal.{refusal_number};
 // In the order of their numbers: the first that holds is given.
 #[derive(Clone, Copy, PartialEq, Eq)]
 pub enum Refusal {
-    RoutineTable,
-    Names,
-    Types,
-    Head,
-    Fields,
-    Trees,
-    Blocks,
-    World,
-    Call,
-    Workspace,
-    Addresses,
-    Record,
+    RoutineTable = 1,
+    Names = 2,
+    Types = 3,
+    Head = 4,
+    Fields = 5,
+    Trees = 6,
+    Blocks = 7,
+    World = 8,
+    Call = 9,
+    Workspace = 20,
+    Addresses = 21,
+    Record = 22,
 }
 
 impl From<Refusal> for u32 {
     ghost from_gives = { λ r n. n ≡ refusal_number r };
 
     fn from(r: Refusal) -> u32 {
-        match r {
-            Refusal::RoutineTable => 1,
-            Refusal::Names => 2,
-            Refusal::Types => 3,
-            Refusal::Head => 4,
-            Refusal::Fields => 5,
-            Refusal::Trees => 6,
-            Refusal::Blocks => 7,
-            Refusal::World => 8,
-            Refusal::Call => 9,
-            Refusal::Workspace => 20,
-            Refusal::Addresses => 21,
-            Refusal::Record => 22,
-        }
+        r as u32
     }
 }
 

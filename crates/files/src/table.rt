@@ -6,7 +6,7 @@ ghost use Rattle.files.specs.FileTable.{HasBody, body, table_ok};
 const LONGEST: usize = 65535;
 
 // Whether f has n bodies, back to back from the table's end to its own. (n is no length: it is how many a file of its sort must have.)
-#[tactic(auto, using(crate::proofs::TableLaws::table_long, crate::proofs::TableLaws::table_short, crate::proofs::TableLaws::table_count, crate::proofs::TableLaws::table_start, crate::proofs::TableLaws::table_gap), unfolding(crate::specs::Items::every))]
+#[tactic(auto, using(crate::proofs::TableLaws::table_long, crate::proofs::TableLaws::table_short, crate::proofs::TableLaws::table_count, crate::proofs::TableLaws::table_start, crate::proofs::TableLaws::table_gap, crate::proofs::TableLaws::table_next, crate::proofs::TableLaws::table_on, crate::proofs::TableLaws::table_ends), unfolding(crate::specs::Items::every))]
 pub fn check(f: &[u8], n: usize) -> bool
     requires { n < 65536 }
     ensures { result ≡ table_ok n f.now }
@@ -32,12 +32,10 @@ pub fn check(f: &[u8], n: usize) -> bool
 }
 
 // Body k. Whoever reads a file gets its bodies here.
-#[tactic(auto, unfolding(crate::specs::FileTable::body))]
+#[tactic(auto, using(crate::proofs::TableLaws::body_located))]
 pub fn body(f: &[u8], k: usize) -> &[u8]
     requires { HasBody f.now k }
     ensures { result.now ≡ body f.now k }
 {
-    let start = layout::get::<2>(f, k * 4 + 2) as usize;
-    let end = start + layout::get::<2>(f, k * 4 + 4) as usize;
-    &f[start..end]
+    layout::located::<2>(f, k * 4 + 2)
 }

@@ -15,20 +15,21 @@ const DEPTH: usize = 64;
 fn is_placed(kind: Kind, in_struct: bool) -> bool
     ensures { result ≡ placed_ok (number_of kind) (parent_of in_struct) }
 {
-    kind.is_field() == in_struct
+    (kind == Kind::Field) == in_struct
 }
 
 // Whether a kind may have so many children.
 fn is_counted(kind: Kind, kids: usize) -> bool
     ensures { result ≡ count_ok (number_of kind) (kids + 1) }
 {
-    let rule = Rule::of(kind);
+    let rule = Rule::from(kind);
     (rule.few <= kids) & (kids <= rule.many)
 }
 
 // The trees side by side from node n up to node e, under a StructInit or not, with `depth` nodes left for a chain:
 // how many there are; none where one is not as it must be. (A loop by lengths: where the next tree is only a tree's own span says. n and e beside all nodes:
 // spans count nodes, and the definition that the contract names goes by their numbers.)
+#[tactic(auto, using(crate::proofs::ItemLaws::some_less, crate::proofs::TreeLaws::trees_deep, crate::proofs::TreeLaws::trees_empty, crate::proofs::TreeLaws::trees_long, crate::proofs::TreeLaws::trees_end))]
 fn count(b: &[u8], depth: usize, in_struct: bool, n: usize, e: usize) -> Option<usize>
     requires { (n ≤ e) × (e * 20 ≤ length b.now) }
     ensures { result ≡ one_less (trees b.now depth (parent_of in_struct) n e 0) }
@@ -54,7 +55,7 @@ fn count(b: &[u8], depth: usize, in_struct: bool, n: usize, e: usize) -> Option<
         let has_kids = 1 < span;
         let mut kids = 0;
         if has_kids {
-            kids = count(b, depth - 1, kind.is_struct(), at + 1, at + span)?;
+            kids = count(b, depth - 1, kind == Kind::StructInit, at + 1, at + span)?;
         }
         if !is_counted(kind, kids) {
             return None;

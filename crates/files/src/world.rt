@@ -14,7 +14,7 @@ pub const SYMBOL: usize = 11;
 
 pub const REGION: usize = 12;
 
-#[tactic(auto, using(crate::proofs::WorldLaws::symbols_odd, crate::proofs::WorldLaws::symbols_start, crate::proofs::WorldLaws::symbols_down, crate::proofs::WorldLaws::symbols_good), unfolding(crate::specs::Items::every))]
+#[tactic(auto, using(crate::proofs::WorldLaws::symbols_odd, crate::proofs::WorldLaws::symbols_start, crate::proofs::WorldLaws::symbols_each, crate::proofs::WorldLaws::symbols_next, crate::proofs::WorldLaws::symbols_on, crate::proofs::WorldLaws::symbols_good), unfolding(crate::specs::Items::every))]
 fn check_symbols(b: &[u8], names: usize) -> bool
     ensures { result ≡ symbols_ok b.now names }
 {
@@ -37,13 +37,11 @@ fn check_symbols(b: &[u8], names: usize) -> bool
 }
 
 // Whether an address is past the last one of the region before, if there is one.
+#[tactic(auto, using(crate::proofs::WorldLaws::past))]
 fn is_past(last: Option<u64>, at: u64) -> bool
     ensures { (s : Before) → Came last s → result ≡ (eqb s.count 0 || ltb s.last at) }
 {
-    match last {
-        None => true,
-        Some(last) => last < at,
-    }
+    last.is_none_or(|last| last < at)
 }
 
 // The length of the region at i, where the last address of the one before it is `last`. (i is a place in the whole body, as in the definition that the contract
@@ -85,7 +83,7 @@ fn check_regions(b: &[u8]) -> bool
         let Some(k) = region_at(b, last, i) else {
             return false;
         };
-        last = Some(layout::get::<8>(b, i) + (k - 13) as u64);
+        last = Some(layout::get::<8>(b, i) + (k - (REGION + 1)) as u64);
         i += k;
     }
     true

@@ -4,20 +4,13 @@ use bytes::Buf;
 use files::refusal::Refusal;
 use std::io;
 
-// The next bytes of a page, so many.
-fn next<'a>(page: &mut &'a [u8], size: usize) -> anyhow::Result<&'a [u8]> {
-    let (bytes, rest) = page.split_at_checked(size).context("a page ends early")?;
-    *page = rest;
-    Ok(bytes)
-}
-
 // The file coded at the front of a page.
 fn unpack<R: Alloc>(rt: &R, page: &mut &[u8]) -> anyhow::Result<Vec<u8, R::A>> {
     let mut file = Vec::new(rt.alloc());
     for _ in 0..page.try_get_u16_le()? {
         let times = page.try_get_u32_le()?;
         let size = page.try_get_u32_le()? as usize;
-        let bytes = next(page, size)?;
+        let bytes = page.split_off(..size).context("a page ends early")?;
         for _ in 0..times {
             file.extend_from_slice(bytes)?;
         }
@@ -57,7 +50,7 @@ fn report(
 // The case at the front of a page.
 fn compare(rt: &(impl Alloc + Print), page: &mut &[u8]) -> anyhow::Result<()> {
     let size = page.try_get_u8()? as usize;
-    let name = next(page, size)?;
+    let name = page.split_off(..size).context("a page ends early")?;
     let expected = page.try_get_u8()?;
     let checked = match page.try_get_u8()? {
         1 => constant(rt, page)?,

@@ -1,5 +1,5 @@
 -- How the code's results read: with what an evaluation ended, or why it ended short. Assumes nothing.
-use Rattle.std.specs.Prelude.{Option, None, Some, Result, Ok, Err}
+use Rattle.std.specs.Prelude.{[], Option, None, Some, Result, Ok, Err}
 use Rattle.value.specs.declared.Val.{Val}
 use Rattle.value.specs.declared.ArithmeticError.{ArithmeticError}
 use Rattle.value.specs.declared.ArithmeticError.TheVariants.{DivisionByZero}
@@ -7,10 +7,9 @@ use Rattle.definition.specs.Act as act
 use Rattle.definition.specs.Act.{by_zero}
 use Rattle.definition.specs.Evaluate as ev
 use Rattle.stream.specs.Bodies.{why_of}
+use Rattle.stream.specs.Pieces.{note_of}
 use Rattle.hosting.specs.declared.Short.{Short}
 use Rattle.hosting.specs.declared.Short.TheVariants.{Full, Why}
-use Rattle.hosting.specs.declared.Note.{Note}
-use Rattle.hosting.specs.declared.Note.TheVariants.{Nothing, Fields, Written, Unknown}
 use Rattle.hosting.specs.declared.Did.{Did}
 
 -- with a value, or short; the reason is none where the run has written over 4,096 addresses
@@ -28,16 +27,10 @@ abbrev pub end_of : {A : Type 0} → Result A Short → Ending A
 end_of (Ok v) = ended v
 end_of (Err s) = short (short_of s)
 
--- ---- what executing tells
-
-abbrev pub note_of : Note → act.Note
-note_of Nothing = act.no_note
-note_of (Fields a n) = act.fields_written a n
-note_of (Written a v) = act.value_written a v
-note_of Unknown = act.result_unknown
+-- ---- what executing tells; the names that a call took are told by the note that the workspace has
 
 abbrev pub did_of : Did → ev.Did
-did_of d = record { wrote = d.wrote; note = note_of d.note }
+did_of d = record { wrote = d.wrote; note = note_of d.note [] }
 
 abbrev pub done_of : Result Did Short → Ending ev.Did
 done_of (Ok d) = ended (did_of d)

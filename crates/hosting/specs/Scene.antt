@@ -14,6 +14,7 @@ use Rattle.index.specs.Regions.{RegionsIndexed}
 use Rattle.workspace.specs.Parts.{tables, symbols_part, regions_part}
 use Rattle.workspace.specs.Types.{type_at, pointee_at, declared_at}
 use Rattle.workspace.specs.View.{Fit}
+use Rattle.hosting.specs.declared.Reads.{Reads}
 use Rattle.hosting.specs.declared.How.{How}
 use Rattle.hosting.specs.declared.Counts.{Counts}
 
@@ -26,6 +27,10 @@ pub record Given : Type 0 where
 
 abbrev pub given : List ℕ → List ℕ → List ℕ → How → Given
 given n s r h = record { nodes = n; symbols = s; regions = r; how = h }
+
+-- what an evaluation reads, and how the run goes
+abbrev pub given_in : Reads → How → Given
+given_in r = given r.nodes.now r.symbols.now r.regions.now
 
 -- ---- what the code reads by
 

@@ -7,7 +7,7 @@ use Rattle.definition.specs.Walk.{walk_all}
 use Rattle.hosting.specs.declared.Counts.{Counts}
 use Rattle.hosting.specs.declared.Facts.{Facts}
 use Rattle.hosting.specs.declared.Stop.{Stop}
-use Rattle.hosting.specs.declared.Stop.TheVariants.{ReturnedNothing, Returned, Steps, Unknown, NoBlock, NoBlocks, NoReturn, Halted}
+use Rattle.hosting.specs.declared.Stop.TheVariants.{Returned, Steps, Unknown, NoBlock, NoBlocks, NoReturn, Halted}
 use Rattle.hosting.specs.declared.Walked.{Walked}
 use Rattle.hosting.specs.Scene.{Given}
 use Rattle.hosting.specs.Ending.{Ending, ended, short, short_of}
@@ -20,8 +20,7 @@ unknown_end at (Some y) = ended (statements.Unknown at y)
 
 -- why a run with so many units stopped, or that the workspace had no room
 abbrev pub stop_end : ℕ → Stop → Ending statements.Stop
-stop_end limit ReturnedNothing = ended (statements.Returned None)
-stop_end limit (Returned v) = ended (statements.Returned (Some v))
+stop_end limit (Returned v) = ended (statements.Returned v)
 stop_end limit Steps = ended (statements.Steps limit)
 stop_end limit (Unknown at s) = unknown_end at (short_of s)
 stop_end limit (NoBlock b) = ended (statements.NoBlock b)

@@ -1,7 +1,7 @@
 // What a run on the lent bytes is told by: its counts, how it goes, and with what an evaluation or a statement ends.
 #![tactic(auto)]
 
-use stream::Reason;
+use stream::{NotePiece, Reason};
 use value::{Ty, Val};
 
 // What an evaluation reads: the nodes of the routine, and the symbols and regions of the world.
@@ -13,7 +13,7 @@ pub struct Reads<'a> {
 }
 
 // The cursors of the two streams, the units left, and those spent on blocks and on statements.
-#[derive(Clone, Copy)]
+#[derive(Clone, Copy, Default)]
 pub struct Tally {
     pub recorded: u64,
     pub asked: u64,
@@ -44,19 +44,11 @@ pub enum Short {
     Why(Reason, u64),
 }
 
-#[derive(Clone, Copy)]
-pub enum Note {
-    Nothing,
-    Fields(u64, u64),
-    Written(u64, Val),
-    Unknown,
-}
-
-// What executing did: the name that it wrote, with the value, and its note.
-#[derive(Clone, Copy)]
+// What executing did: the name that it wrote, with the value, and its note, beside which stands no name that a call took.
+#[derive(Clone, Copy, Default)]
 pub struct Did {
     pub wrote: Option<(usize, Val)>,
-    pub note: Note,
+    pub note: NotePiece,
 }
 
 // What a run needs to know of its routine beside the bodies: how many blocks it has, the type to which a returned value is cast, which is none where the
@@ -72,8 +64,7 @@ pub struct Facts {
 // Why a run stopped. Unknown because the workspace is full is no stop of the definition: the run is refused.
 #[derive(Clone, Copy)]
 pub enum Stop {
-    ReturnedNothing,
-    Returned(Val),
+    Returned(Option<Val>),
     Steps,
     Unknown(Option<u64>, Short),
     NoBlock(u64),

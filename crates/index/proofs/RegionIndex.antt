@@ -1,17 +1,28 @@
 -- How the index of regions grows, and the search for the region of an address. Assumes nothing.
 use mathlib.Core.Path.{◌≡◌, refl, sym, ap, subst, ◌∙◌}
 use mathlib.Core.Bool.{Bool, true, false, cond}
-use mathlib.Core.List.{List}
+use mathlib.Core.List.{List, [], ◌∷◌}
 use Rattle.std.specs.Prelude.{None, Some}
-use Prim.Native.Nat.{ℕ, ◌+◌, ◌-◌, ◌*◌, ◌/◌, ◌%◌, ◌≤◌, ◌<◌}
+use Rattle.std.specs.List.{AllWithin}
+use Rattle.std.specs.List.Sorted.{IsPartitionedBy}
+use Rattle.std.specs.Simd.{first_chunks}
+use Rattle.std.proofs.lemmas.List.{get_or-take, take-take}
+use Rattle.std.specs.Iterator.{Yields}
+use Rattle.std.specs.Iterator.Adapters.{step_by_steps}
+use Rattle.std.specs.declared.iter.StepBy.{StepBy}
+use Prim.Native.Nat.{ℕ, zero, suc, ◌+◌, ◌-◌, ◌*◌, ◌/◌, ◌≤◌, ◌<◌}
 use native.Mathlib.Nat.{le_antisymm, lt_of_not-le, le_of_suc-le-suc}
 use native.Mathlib.Omega.{arith}
-use borrow.Author.Tests.{ltb-true, ltb-false, eqb-true, eqb-false}
-use lib.Dec.{ltb, eqb}
-use lib.ListN.{length}
-use Rattle.layout.specs.Number.{number_at, put_number}
+use borrow.Author.Tests.{le-leb, leb-true, ltb-true, ltb-false}
+use lib.Dec.{leb, ltb}
+use lib.ListN.{length, take, drop, get_or, length-take}
+use lib.Seq.{drop-drop}
+use Rattle.layout.specs.Number.{num, number_at, put_number}
+use Rattle.layout.specs.Format.{whole}
+use Rattle.files.specs.World.{region, byte_at}
 use Rattle.index.specs.Places.{place_from, region_size}
-use Rattle.index.specs.Regions.{regions_room, region_count, region_place, start_at, end_at, RegionInside, Regions, RegionsIndexed, Clear, From, Numbered, Located}
+use Rattle.index.specs.declared.regions.Places.{Places}
+use Rattle.index.specs.Regions.{regions_room, region_count, region_place, start_at, end_at, starts_by, RegionInside, Regions, Stands, Steps, RegionsIndexed, Clear, From}
 use Rattle.index.proofs.PlaceLaws.{place_order, place_next, place_strict}
 use Rattle.index.proofs.EntryLaws.{Entries, length_put, entries_more}
 use Rattle.index.proofs.RegionBytes.{ends_before, byte_none}
@@ -44,76 +55,202 @@ module _ {b : List ℕ} (all : Regions b) {i k : ℕ} (here : i ≡ region_place
   pub is_inside : k < region_count b → i < length b
   is_inside l = omega (arith, region_strict b k (region_count b) l, here, all.full)
 
+-- the place past a region's is the next one's
+pub region_past : (b : List ℕ) (k : ℕ) {i j : ℕ} → i ≡ region_place b k → j ≡ i + region_size b i → j ≡ region_place b (k + 1)
+region_past b k {i} {j} here e = e ∙ ap (λ (m : ℕ). m + region_size b m) here ∙ sym (region_next b k)
+
+module _ {b : List ℕ} {i : ℕ} (so : Stands b i) (h : i < length b) where
+  pub stands_inside : RegionInside b i
+  stands_inside = in_body so.regions so.here (is_region so.regions so.here h)
+
+  pub stands_on : {n j : ℕ} → n ≡ number_at b (i + 8) 4 → j ≡ i + n + 12 → Stands b j
+  stands_on {n} {j} en ej = record {
+    regions = so.regions;
+    number = so.number + 1;
+    here = region_past b so.number so.here (omega (arith, en, ej));
+    most = omega (arith, is_region so.regions so.here h);
+  }
+
+-- ---- the iterator's steps
+
+module _ {b : List ℕ} (all : Regions b) where
+  pub step_on : {s t : Places} {i k : ℕ} → s.regions.now ≡ b → s.at ≡ region_place b k → Steps s (Some i) t
+      → (k < region_count b) × (i ≡ region_place b k) × (t.regions.now ≡ b) × (t.at ≡ region_place b (k + 1))
+  step_on {s} {t} {i} {k} body here st =
+      let lt : s.at < length b = subst (λ (l : List ℕ). s.at < length l) body st.1 in
+      (is_region all here lt, st.0 ∙ here, ap (λ v. v.now) st.3 ∙ body, region_past b k here (st.2 ∙ ap (λ (l : List ℕ). s.at + region_size l s.at) body))
+
+  steps_on : (xs : List ℕ) (s t : Places) {k : ℕ} → s.regions.now ≡ b → s.at ≡ region_place b k → k ≤ region_count b → Yields Steps s xs t
+      → (t.regions.now ≡ b) × (t.at ≡ region_place b (k + length xs)) × (k + length xs ≤ region_count b)
+  steps_on [] s t {k} body here most y =
+      let e : k + 0 ≡ k = omega arith in
+      (ap (λ (v : Places). v.regions.now) (sym y) ∙ body, ap (λ (v : Places). v.at) (sym y) ∙ here ∙ ap (region_place b) (sym e), omega (arith, most))
+  steps_on (x ∷ xs) s t {k} body here most y =
+      let st = step_on body here y.1 in
+      let more = steps_on xs y.0 t st.2 st.3 (omega (arith, st.0)) y.2 in
+      let e : k + 1 + length xs ≡ k + length (x ∷ xs) = omega arith in
+      (more.0, more.1 ∙ ap (region_place b) e, omega (arith, more.2))
+
+  -- each region takes 13 bytes or more
+  region_least : (k : ℕ) → k ≤ region_count b → k * 13 ≤ region_place b k
+  region_least zero h = omega arith
+  region_least (suc k) h =
+      let e : k + 1 ≡ suc k = omega arith in
+      omega (arith, region_least k (omega (arith, h)), (all.inside k (omega (arith, h))).some, region_next b k, ap (region_place b) e)
+
+  pub place_inside : {k : ℕ} → k < region_count b → (region_place b k < length b) × (k * 13 < length b)
+  place_inside {k} h =
+      let l : region_place b k < length b = is_inside all refl h in
+      (l, omega (arith, region_least k (omega (arith, h)), l))
+
 -- ---- the index grows
 
--- the entries of the regions before a place
-pub record Filling (b part : List ℕ) (at count : ℕ) : Type 0 where
-  pub here : at ≡ region_place b count
-  pub most : count ≤ region_count b
-  pub few : count * 13 ≤ at
-  pub near : at ≤ length b
+-- the first entries are in the part, and the iterator passes over as many regions as stand between two of them
+pub record Filling (b part : List ℕ) (s : StepBy Places) (count : ℕ) : Type 0 where
+  pub body : s.iter.regions.now ≡ b
+  pub regions : Regions b
+  pub gap : s.gap ≡ 3
+  pub number : ℕ
+  pub here : s.iter.at ≡ region_place b number
+  pub most : number ≤ region_count b
+  pub passed : number + cond s.first 0 s.gap ≡ count * 4
   pub room : regions_room ≤ length part
-  pub entries : Entries part (λ k. k * 2) (λ k x. x ≡ region_place b (k * 4)) ((count + 3) / 4)
+  pub entries : Entries part (λ k. k * 2) (λ k x. x ≡ region_place b (k * 4)) count
 
-pub regions_none : {b part : List ℕ} → regions_room ≤ length part → Filling b part 0 0
+pub regions_none : {b part : List ℕ} {s : StepBy Places} → Regions b → s.iter.regions.now ≡ b → s.iter.at ≡ 0 → s.gap + 1 ≡ 4 → s.first ≡ true → regions_room ≤ length part → Filling b part s 0
 unfolding region_place place_from
-regions_none room = record { here = refl; most = omega arith; few = omega arith; near = omega arith; room = room; entries = λ k h. absurd (omega arith) }
+regions_none all body at gap first room = record {
+  body = body;
+  regions = all;
+  gap = omega (arith, gap);
+  number = 0;
+  here = at;
+  most = omega arith;
+  passed = rw first refl;
+  room = room;
+  entries = λ k h. absurd (omega arith);
+}
 
-module _ {b part : List ℕ} {at count : ℕ} (all : Regions b) (so : Filling b part at count) where
-  pub region_there : at < length b → RegionInside b at
-  region_there h = in_body all so.here (is_region all so.here h)
+module _ {b part : List ℕ} {s : StepBy Places} {count : ℕ} (so : Filling b part s count) where
+  pub regions_stand : Stands s.iter.regions.now s.iter.at
+  regions_stand = rw so.body (record { regions = so.regions; number = so.number; here = so.here; most = so.most })
 
-  marked : {part' : List ℕ} → at < length b → part' ≡ cond (eqb (count % 4) 0) (put_number part (count / 4 * 2) 2 at) part
-      → (length part' ≡ length part) × Entries part' (λ k. k * 2) (λ k x. x ≡ region_place b (k * 4)) ((count + 1 + 3) / 4)
-  marked {part'} h e = go (eqb (count % 4) 0) refl e
-    where
-      go : (t : Bool) → eqb (count % 4) 0 ≡ t → part' ≡ cond t (put_number part (count / 4 * 2) 2 at) part
-          → (length part' ≡ length part) × Entries part' (λ k. k * 2) (λ k x. x ≡ region_place b (k * 4)) ((count + 1 + 3) / 4)
-      go true p g =
-          let z : count % 4 ≡ 0 = eqb-true (count % 4) 0 p in
-          let n : (count + 3) / 4 ≡ count / 4 = omega arith in
-          let m : (count + 1 + 3) / 4 ≡ (count + 3) / 4 + 1 = omega arith in
-          let q : count ≡ (count + 3) / 4 * 4 = omega arith in
-          let i = (region_there h).inside in (
-            ap length g ∙ length_put part (count / 4 * 2) 2 at,
-            rw (g, m)
-                (entries_more part (λ k. k * 2) (λ k x. x ≡ region_place b (k * 4)) ((count + 3) / 4) so.entries (count / 4 * 2) (λ k l. omega arith) at
-                (ap (λ (x : ℕ). x * 2) (sym n)) (omega (arith, i, so.few, so.room, all.short, (region_there h).some)) (omega (arith, all.short)) (so.here ∙ ap (region_place b) q)),
-          )
-      go false p g =
-          let z : count % 4 ≡ 0 → ⊥ = eqb-false (count % 4) 0 p in
-          let m : (count + 1 + 3) / 4 ≡ (count + 3) / 4 = omega arith in
-          (ap length g, rw (g, m) so.entries)
+  -- a turn
+  module _ {at : ℕ} {t : StepBy Places} (st : step_by_steps Steps s (Some at) t) where
+    filled_here : (count * 4 < region_count b) × (at ≡ region_place b (count * 4)) × (t.iter.regions.now ≡ b) × (t.iter.at ≡ region_place b (count * 4 + 1))
+    filled_here =
+        let run = steps_on so.regions st.2.1 s.iter st.2.3.0 so.body so.here so.most st.2.3.1 in
+        let e : so.number + length st.2.1 ≡ count * 4 = ap (λ (n : ℕ). so.number + n) (st.2.4 ∙ st.2.2) ∙ so.passed in
+        step_on so.regions run.0 (run.1 ∙ ap (region_place b) e) st.2.3.2
 
-  pub region_filled : {part' : List ℕ} {n : ℕ} → at < length b → part' ≡ cond (eqb (count % 4) 0) (put_number part (count / 4 * 2) 2 at) part → n ≡ number_at b (at + 8) 4
-      → Filling b part' (at + n + 12) (count + 1)
-  region_filled {part'} {n} h e g =
-      let q : at + region_size b at ≡ at + n + 12 = omega (arith, g) in
-      let i = region_there h in
+    pub region_room : count * 2 + 2 ≤ length part
+    region_room = omega (arith, (place_inside so.regions filled_here.0).1, so.regions.short, so.room)
+
+    pub region_filled : {part' : List ℕ} → part' ≡ put_number part (count * 2) 2 at → Filling b part' t (count + 1)
+    region_filled {part'} e =
+        let gap : t.gap ≡ 3 = st.0 ∙ so.gap in
+        record {
+          body = filled_here.2;
+          regions = so.regions;
+          gap = gap;
+          number = count * 4 + 1;
+          here = filled_here.3;
+          most = omega (arith, filled_here.0);
+          passed = rw (st.1, gap) (omega arith);
+          room = omega (arith, ap length e ∙ length_put part (count * 2) 2 at, so.room);
+          entries = subst (λ (l : List ℕ). Entries l (λ k. k * 2) (λ k x. x ≡ region_place b (k * 4)) (count + 1)) (sym e)
+              (entries_more part (λ k. k * 2) (λ k x. x ≡ region_place b (k * 4)) count so.entries (count * 2) (λ k g. omega arith) at refl region_room
+              (omega (arith, filled_here.1, (place_inside so.regions filled_here.0).0, so.regions.short)) filled_here.1);
+        }
+
+  -- the end
+  pub regions_filled : (t : StepBy Places) → step_by_steps Steps s None t → RegionsIndexed b part count
+  regions_filled t st =
+      let run = steps_on so.regions st.2.1 s.iter st.2.3.0 so.body so.here so.most st.2.3.1 in
+      let past : length b ≤ st.2.3.0.at = subst (λ (l : List ℕ). length l ≤ st.2.3.0.at) run.0 st.2.3.2 in
+      let all : so.number + length st.2.1 ≡ region_count b = is_end so.regions run.1 run.2 past in
+      let gap : st.2.0 ≤ 3 = subst (λ (n : ℕ). n ≤ 3) (sym st.2.2) (gap_most s.first) in
+      let number : count ≡ (region_count b + 3) / 4 = omega (arith, all, st.2.4, gap, ap (λ (n : ℕ). so.number + n) st.2.2, so.passed) in
       record {
-        here = sym q ∙ ap (λ (j : ℕ). j + region_size b j) so.here ∙ sym (region_next b count);
-        most = omega (arith, is_region all so.here h);
-        few = omega (arith, so.few, i.some, q);
-        near = omega (arith, i.inside, q);
-        room = omega (arith, (marked h e).0, so.room);
-        entries = (marked h e).1;
+        regions = so.regions;
+        number = number;
+        room = omega (arith, number, count_few, so.room);
+        at = so.entries;
       }
+    where
+      gap_most : (f : Bool) → cond f 0 s.gap ≤ 3
+      gap_most true = omega arith
+      gap_most false = omega (arith, so.gap)
 
--- ---- an entry of the index
+      count_few : region_count b * 13 ≤ 65535
+      count_few = omega (arith, region_least so.regions (region_count b) (omega arith), so.regions.full, so.regions.short)
 
-module _ {b part : List ℕ} {n : ℕ} (all : RegionsIndexed b part n) where
-  pub entry_region : {k : ℕ} → k < n → k * 4 < region_count b
-  entry_region h = omega (arith, all.number)
+-- ---- the entries as the library's search takes them
 
-  module _ (k : ℕ) {at : ℕ} (h : k < n) (e : at ≡ number_at part (k * 2) 2) where
-    entry_here : at ≡ region_place b (k * 4)
-    entry_here = e ∙ all.at k h
+entry_bytes : (n : ℕ) (s : List ℕ) (k : ℕ) (d : List ℕ) → k < n → get_or (first_chunks 2 n s) k d ≡ take 2 (drop (k * 2) s)
+entry_bytes zero s k d h = absurd (omega (arith, h))
+entry_bytes (suc n) s zero d h = refl
+entry_bytes (suc n) s (suc k) d h =
+    let e : 2 + k * 2 ≡ suc k * 2 = omega arith in
+    entry_bytes n (drop 2 s) k d (omega (arith, h)) ∙ ap (take 2) (drop-drop (k * 2) 2 s) ∙ ap (λ (i : ℕ). take 2 (drop i s)) e
 
-    -- the regions before one that starts by the address end by it
-    pub entry_clear : {a s : ℕ} → s ≡ number_at b at 8 → s ≤ a → Clear b (k * 4) a
-    entry_clear {a} {s} g l = record {
-      each = λ j m. omega (arith, ends_before b all.regions j (k * 4) m (entry_region h), g, ap (λ (i : ℕ). number_at b i 8) entry_here, l);
-    }
+number_entry : (s : List ℕ) (i : ℕ) → number_at (take 2 (drop i s)) 0 2 ≡ number_at s i 2
+unfolding number_at
+number_entry s i = ap num (take-take 2 2 (drop i s) (omega arith))
+
+module _ {b part : List ℕ} {n : ℕ} (all : RegionsIndexed b part n) (entries : List (List ℕ)) (e : entries ≡ take n (first_chunks 2 (length part / 2) part)) (a : ℕ) where
+  entry_place : (k : ℕ) (d : List ℕ) → k < n → number_at (get_or entries k d) 0 2 ≡ region_place b (k * 4)
+  entry_place k d h =
+      let room : k < length part / 2 = omega (arith, all.room, h) in
+      ap (λ (l : List (List ℕ)). number_at (get_or l k d) 0 2) e ∙ ap (λ (s : List ℕ). number_at s 0 2) (get_or-take n (first_chunks 2 (length part / 2) part) k d h ∙ entry_bytes (length part / 2) part k d room)
+      ∙ number_entry part (k * 2) ∙ all.at k h
+
+  start_order : (j k : ℕ) → j ≤ k → k < n → start_at b (region_place b (j * 4)) ≤ start_at b (region_place b (k * 4))
+  start_order j k l h = go (ltb j k) refl
+    where
+      few : k * 4 < region_count b
+      few = omega (arith, all.number, h)
+
+      go : (t : Bool) → ltb j k ≡ t → start_at b (region_place b (j * 4)) ≤ start_at b (region_place b (k * 4))
+      go true p = omega (arith, ends_before b all.regions (j * 4) (k * 4) (omega (arith, ltb-true j k p)) few)
+      go false p = let q : j ≡ k = omega (arith, ltb-false j k p, l) in rw q (omega arith)
+
+  -- the test of an entry looks at the region's start
+  entry_test : (k : ℕ) (d : List ℕ) → k < n → starts_by b a (get_or entries k d) ≡ leb (start_at b (region_place b (k * 4))) a
+  unfolding starts_by
+  entry_test k d h =
+      let in_b = (all.regions.inside (k * 4) (omega (arith, all.number, h))).inside in
+      rw (entry_place k d h, le-leb (region_place b (k * 4) + 8) (length b) (omega (arith, in_b))) refl
+
+  entries_few : length entries ≤ n
+  entries_few = omega (arith, ap length e ∙ length-take n (first_chunks 2 (length part / 2) part))
+
+  pub entries_parted : IsPartitionedBy (starts_by b a) entries
+  entries_parted i j d l m up =
+      let h : j < n = omega (arith, m, entries_few) in
+      let low = leb-true (start_at b (region_place b (j * 4))) a (sym (entry_test j d h) ∙ up) in
+      entry_test i d (omega (arith, l, h)) ∙ le-leb _ _ (omega (arith, start_order i j l h, low))
+
+  -- the last that passes, or the first
+  pub entry_found : (k i : ℕ) (d : List ℕ) {at : ℕ} → 1 ≤ n → k ≤ length entries → AllWithin (λ y. starts_by b a y ≡ true) entries 0 k → i ≡ k - 1 → at ≡ number_at (get_or entries i d) 0 2
+      → From b a at
+  entry_found zero i d some h pass l g = record {
+    number = 0;
+    here = g ∙ ap (λ (q : ℕ). number_at (get_or entries q d) 0 2) l ∙ entry_place 0 d some;
+    most = omega arith;
+    clear = record { each = λ j m. absurd (omega (arith, m)) };
+  }
+  entry_found (suc k) i d some h pass l g =
+      let m : k < n = omega (arith, h, entries_few) in
+      let here : i ≡ k = omega (arith, l) in
+      let low = leb-true (start_at b (region_place b (k * 4))) a (sym (entry_test k d m) ∙ pass k d (omega arith) (omega arith)) in
+      let few : k * 4 < region_count b = omega (arith, all.number, m) in
+      record {
+        number = k * 4;
+        here = g ∙ ap (λ (q : ℕ). number_at (get_or entries q d) 0 2) here ∙ entry_place k d m;
+        most = omega (arith, few);
+        clear = record { each = λ j m. omega (arith, ends_before b all.regions j (k * 4) m few, low) };
+      }
 
 -- ---- from region to region
 
@@ -125,9 +262,14 @@ module _ {b : List ℕ} (all : Regions b) where
       go j l true p = so.each j (ltb-true j k p)
       go j l false p = let q : j ≡ k = omega (arith, ltb-false j k p) in rw q h
 
+  -- a region that ends by an address: so do those before it
+  pub ended_by : {k a : ℕ} → k < region_count b → end_at b (region_place b k) ≤ a → Clear b (k + 1) a
+  ended_by {k} {a} h l =
+      clear_more (record { each = λ j m. omega (arith, ends_before b all j k m h, l, (all.inside k h).some) }) l
+
   module _ {a i : ℕ} (so : From b a i) where
     module _ {s : ℕ} (h : i < length b) (e : s ≡ number_at b i 8) where
-      pub before_region : a < s → Located b a None
+      pub before_region : a < s → byte_at (whole region b) a ≡ None
       before_region l = (byte_none b all so.clear (λ g. omega (arith, e, ap (λ (j : ℕ). number_at b j 8) so.here, l)))
 
       module _ {n : ℕ} (low : s ≤ a) (g : n ≡ number_at b (i + 8) 4) where
@@ -143,57 +285,5 @@ module _ {b : List ℕ} (all : Regions b) where
               clear = clear_more so.clear (subst (λ (j : ℕ). number_at b j 8 + number_at b (j + 8) 4 ≤ a) so.here f);
             }
 
-    pub past_all : length b ≤ i → Located b a None
+    pub past_all : length b ≤ i → byte_at (whole region b) a ≡ None
     past_all h = byte_none b all so.clear (λ g. absurd (omega (arith, is_end all so.here so.most h)))
-
--- ---- a region that touches the one before it
-
-module _ {b : List ℕ} (all : Regions b) {i : ℕ} (so : Numbered b i) where
-  pub its_body : RegionInside b i
-  its_body = in_body all so.here so.most
-
-  ended_before : (k : ℕ) → k < so.number → end_at b (region_place b k) ≤ end_at b i
-  ended_before k h = omega (arith, ends_before b all k so.number h so.most, ap (λ (j : ℕ). number_at b j 8) so.here)
-
-  its_clear : Clear b (so.number + 1) (end_at b i)
-  its_clear = clear_more all (record { each = ended_before }) (subst (λ (j : ℕ). end_at b j ≤ end_at b i) so.here (omega arith))
-
-  module _ {s n : ℕ} (e : s ≡ number_at b i 8) (g : n ≡ number_at b (i + 8) 4) where
-    next_here : i + n + 12 ≡ region_place b (so.number + 1)
-    next_here =
-        let q : i + n + 12 ≡ i + region_size b i = omega (arith, g) in
-        q ∙ ap (λ (j : ℕ). j + region_size b j) so.here ∙ sym (region_next b so.number)
-
-    pub no_next : length b ≤ i + n + 12 → Located b (end_at b i) None
-    no_next h = byte_none b all its_clear (λ l. absurd (omega (arith, is_inside all next_here l)))
-
-    module _ (h : i + n + 12 < length b) where
-      next_number : so.number + 1 < region_count b
-      next_number = is_region all next_here h
-
-      pub next_inside : RegionInside b (i + n + 12)
-      next_inside = in_body all next_here next_number
-
-      next_start : {t : ℕ} → t ≡ number_at b (i + n + 12) 8 → t ≡ start_at b (region_place b (so.number + 1))
-      next_start f = f ∙ ap (λ (j : ℕ). number_at b j 8) next_here
-
-      its_end : end_at b i ≡ s + (n - 1) + 1
-      its_end = omega (arith, e, g, its_body.some)
-
-      module _ {t : ℕ} (f : t ≡ number_at b (i + n + 12) 8) where
-        pub next_later : s + (n - 1) ≤ t
-        next_later = omega (arith, its_end, next_start f, ends_before b all so.number (so.number + 1) (omega arith) next_number, ap (end_at b) so.here)
-
-        pub next_touches : t - (s + (n - 1)) ≡ 1 → Located b (end_at b i) (Some (i + n + 12))
-        next_touches z = record {
-          number = so.number + 1;
-          here = next_here;
-          most = next_number;
-          low = omega (arith, its_end, f, z);
-          high = omega (arith, its_end, f, z, next_inside.some);
-        }
-
-        pub next_apart : (t - (s + (n - 1)) ≡ 1 → ⊥) → Located b (end_at b i) None
-        next_apart z =
-            byte_none b all its_clear
-            (λ l. omega (arith, its_end, next_start f, z, ends_before b all so.number (so.number + 1) (omega arith) next_number, ap (end_at b) so.here))

@@ -1,8 +1,8 @@
 -- The bytes from an address on, region by region. Assumes nothing.
-use mathlib.Core.Path.{◌≡◌, sym, ap, ap₂, subst, ◌∙◌}
+use mathlib.Core.Path.{◌≡◌, sym, ap, ap₂, subst, subst₂, ◌∙◌}
 use mathlib.Core.List.{List, ◌++◌, append_assoc, append-nil}
-use Rattle.std.specs.Prelude.{Option, None, Some}
-use Prim.Native.Nat.{ℕ, suc, ◌+◌, ◌-◌, ◌*◌, ◌%◌, ◌^◌, ◌≤◌, ◌<◌, min}
+use Rattle.std.specs.Prelude.{None, Some}
+use Prim.Native.Nat.{ℕ, ◌+◌, ◌-◌, ◌*◌, ◌%◌, ◌^◌, ◌≤◌, ◌<◌, min}
 use native.Mathlib.Nat.{pow-le-pow_right}
 use native.Mathlib.Omega.{arith}
 use mir.Syntax.{w8}
@@ -18,10 +18,12 @@ use Rattle.layout.proofs.StoreLaws.{each_byte}
 use Rattle.files.specs.World.{region, byte_at, bytes_from}
 use Rattle.memory.specs.declared.Image.{Image}
 use Rattle.memory.proofs.LoadLaws.{shifted}
-use Rattle.index.specs.Regions.{start_at, end_at, RegionInside, LengthOf, Regions, RegionsIndexed, Holding, Located, Gathered, ReadFrom}
+use Rattle.index.specs.declared.regions.Places.{Places}
+use Rattle.index.specs.Places.{region_size}
+use Rattle.index.specs.Regions.{region_count, region_place, start_at, end_at, RegionInside, LengthOf, Regions, Steps, RegionsIndexed, From, Holding, Gathered, ReadFrom}
 use Rattle.index.proofs.NumberBytes.{le_join, join_small, le_read}
-use Rattle.index.proofs.RegionBytes.{byte_none, byte_held, bytes_none, bytes_run}
-use Rattle.index.proofs.RegionIndex.{in_body}
+use Rattle.index.proofs.RegionBytes.{ends_before, byte_none, byte_held, bytes_none, bytes_run}
+use Rattle.index.proofs.RegionIndex.{is_region, in_body, region_past, ended_by, before_region, past_region, past_all}
 
 -- ---- the bytes that one region has
 
@@ -121,17 +123,79 @@ read_none {b} {part} {count} {a} {n} all z =
     let e : byte_at (whole region b) a ≡ None = byte_none b all.regions {n = 0} (record { each = λ k h. absurd (omega arith) }) (λ h. absurd (omega (arith, all.number, z))) in
     record { bytes = sym (bytes_none (whole region b) n a e); small = lit< tt; most = omega arith }
 
--- ---- the loop over regions that touch
+-- ---- the loop over regions
 
-pub record Reading (b : List ℕ) (a n : ℕ) (image : Image) (next : Option ℕ) : Type 0 where
+-- the bytes so far are the first, and the iterator stands at a region before which none has the next byte
+pub record Reading (b : List ℕ) (a n : ℕ) (image : Image) (s : Places) : Type 0 where
+  pub body : s.regions.now ≡ b
+  pub regions : Regions b
   pub gathered : Gathered b a n image
-  pub located : Located b (a + image.count) next
+  pub from : From b (a + image.count) s.at
+  pub wanted : s.at < length b → a + image.count < 2 ^ 64
   pub low : image.count < 8
 
-pub reading_end : {b : List ℕ} {a n : ℕ} {image : Image} {next : Option ℕ} → Reading b a n image next → next ≡ None → ReadFrom b a n image
-reading_end {b} {a} {n} {image} so e = read_end so.gathered (subst (Located b (a + image.count)) e so.located)
+pub reading_start : {b : List ℕ} {a n i : ℕ} {s : Places} → Regions b → a < 2 ^ 64 → From b a i → s.regions.now ≡ b → s.at ≡ i → Reading b a n (record { count = 0; number = 0 }) s
+reading_start {b} {a} {n} all fits from body here =
+    let e : a ≡ a + 0 = omega arith in
+    let m : n ≡ n - 0 = omega arith in
+    record {
+      body = body;
+      regions = all;
+      gathered = record { bytes = ap₂ (bytes_from (whole region b)) m e; small = lit< tt; most = omega arith };
+      from = subst₂ (From b) e (sym here) from;
+      wanted = λ h. omega (arith, fits);
+      low = omega arith;
+    }
 
--- what is left of the body from a region on, if there is one
-abbrev pub rest_of : List ℕ → Option ℕ → ℕ
-rest_of b None = 0
-rest_of b (Some i) = suc (length b - i)
+module _ {b : List ℕ} {a n : ℕ} {image : Image} {s : Places} (so : Reading b a n image s) where
+  pub reading_end : length s.regions.now ≤ s.at → ReadFrom b a n image
+  reading_end h = read_end so.gathered (past_all so.regions so.from (subst (λ (l : List ℕ). length l ≤ s.at) so.body h))
+
+  -- at a region
+  module _ {i : ℕ} {t : Places} (st : Steps s (Some i) t) where
+    lower : i < length b
+    lower = subst (λ (l : List ℕ). i < length l) so.body (omega (arith, st.0, st.1))
+
+    from_here : From b (a + image.count) i
+    from_here = subst (From b (a + image.count)) (sym st.0) so.from
+
+    is_one : from_here.number < region_count b
+    is_one = is_region so.regions from_here.here lower
+
+    past_it : t.at ≡ i + region_size b i
+    past_it = st.2 ∙ ap (λ (l : List ℕ). s.at + region_size l s.at) so.body ∙ ap (λ (j : ℕ). j + region_size b j) (sym st.0)
+
+    reading_fits : a + image.count < 2 ^ 64
+    reading_fits = so.wanted (omega (arith, st.0, lower))
+
+    module _ {start : ℕ} (e : start ≡ number_at b i 8) where
+      -- no region has the next byte
+      pub reading_before : a + image.count < start → ReadFrom b a n image
+      reading_before l = read_end so.gathered (before_region so.regions from_here lower e l)
+
+      module _ {len : ℕ} (g : LengthOf b i len) (low : start ≤ a + image.count) where
+        pub reading_past : len ≤ a + image.count - start → Reading b a n image t
+        reading_past l = record {
+          body = ap (λ v. v.now) st.3 ∙ so.body;
+          regions = so.regions;
+          gathered = so.gathered;
+          from = subst (From b (a + image.count)) (omega (arith, past_it, g.is)) (past_region so.regions from_here lower e low g.is l);
+          wanted = λ h. reading_fits;
+          low = so.low;
+        }
+
+    -- the region has no more, and fewer bytes are there than are asked for
+    pub reading_more : {image' : Image} → Gathered b a n image' → n ≤ 8 → (image'.count ≡ n → ⊥) → a + image'.count ≡ end_at b i → Reading b a n image' t
+    reading_more {image'} gathered few less end =
+        let k = from_here.number in
+        let here : t.at ≡ region_place b (k + 1) = region_past b k from_here.here past_it in
+        let ends : end_at b (region_place b k) ≡ a + image'.count = sym (end ∙ ap (end_at b) from_here.here) in
+        record {
+          body = ap (λ v. v.now) st.3 ∙ so.body;
+          regions = so.regions;
+          gathered = gathered;
+          from = record { number = k + 1; here = here; most = omega (arith, is_one); clear = ended_by so.regions is_one (omega (arith, ends)) };
+          wanted = λ h. let l = is_region so.regions here h in
+              omega (arith, ends, ends_before b so.regions k (k + 1) (omega arith) l, number_at_lt b (region_place b (k + 1)) 8);
+          low = omega (arith, gathered.most, few, less);
+        }

@@ -43,6 +43,13 @@ merge_none {R} {W} {S} {part} {rest} room left none = subst (Merging R W S part 
   entries = λ k h. absurd (omega arith);
 })
 
+-- the default cursor is where the search starts
+pub starts : (c : Cursor) → c.symbol ≡ 0 × (c.name ≡ 0 × c.at ≡ 0) → c ≡ record { symbol = 0; name = 0; at = 0 }
+starts c h =
+    ap (λ (n : ℕ). record { symbol = n; name = c.name; at = c.at }) h.0
+    ∙ ap (λ (n : ℕ). record { symbol = 0; name = n; at = c.at }) h.1.0
+    ∙ ap (λ (n : ℕ). record { symbol = 0; name = 0; at = n }) h.1.1
+
 module _ {R W S part rest : List ℕ} {cursor : Cursor} {count : ℕ} (names : 1 ≤ names_in R) (short : length R < 65536) (so : Merging R W S part cursor rest count) where
   few : text_count R ≤ 512
   few = (names_texts R names short).few

@@ -121,15 +121,9 @@ module _ {W S : List ℕ} (ok : Symbols W S) where
       (symbols_ascend S (names_of W) ok.good j k l g) (name_below k g)
 
   module _ {symbol number at : ℕ} (so : Standing W S symbol number at) where
-    pub seek_whole : symbol * 11 < length S → symbol * 11 + 11 ≤ length S
-    seek_whole h = omega (arith, whole_symbols)
-
-    module _ {w : ℕ} (h : symbol * 11 < length S) (e : w ≡ number_at S (symbol * 11) 2) where
-      is_one : symbol < length S / 11
-      is_one = omega (arith, whole_symbols, h)
-
+    module _ {w : ℕ} (h : symbol < length S / 11) (e : w ≡ number_at S (symbol * 11) 2) where
       pub seek_named : number ≤ w
-      seek_named = omega (arith, e, so.below h)
+      seek_named = omega (arith, e, so.below (omega (arith, h)))
 
       there : place_from (text_size W) at (w - number) ≡ place_from (text_size W) 0 w
       there =
@@ -137,7 +131,7 @@ module _ {W S : List ℕ} (ok : Symbols W S) where
           ap (λ (i : ℕ). place_from (text_size W) i (w - number)) so.here ∙ place_add (text_size W) 0 number (w - number) ∙ ap (place_from (text_size W) 0) q
 
       wanted : w < text_count W
-      wanted = omega (arith, e, name_below symbol is_one)
+      wanted = omega (arith, e, name_below symbol h)
 
       pub seek_skip : place_from (text_size W) at (w - number) ≤ length W
       seek_skip = omega (arith, there, place_mono (text_size W) 0 w (text_count W) (omega (arith, wanted)), texts.full)
@@ -153,7 +147,7 @@ module _ {W S : List ℕ} (ok : Symbols W S) where
         seek_stands = record {
           here = g ∙ there;
           below = λ m. omega (arith, e, symbols_ascend S (names_of W) ok.good symbol (symbol + 1) (omega arith) (omega (arith, whole_symbols, m)));
-          most = omega (arith, seek_whole h);
+          most = omega (arith, h);
         }
 
         module _ {t name : List ℕ} {r : Ordering} (here : TextAt W at' t) (passed : Passed W S symbol name) (o : r ≡ slice_cmp nat_cmp t name) where
@@ -166,21 +160,21 @@ module _ {W S : List ℕ} (ok : Symbols W S) where
           pub seek_passes : r ≡ Less → Passed W S (symbol + 1) name
           seek_passes z = passed_more W S name symbol passed (told_less (name_of W S symbol) name r order z)
 
-          pub seek_equal : r ≡ Equal → Sought W S name (record { symbol = symbol; name = w; at = at' }) (Some symbol)
-          seek_equal z = record {
+          pub seek_equal : {k : ℕ} → k ≡ symbol → r ≡ Equal → Sought W S name (record { symbol = k; name = w; at = at' }) (Some symbol)
+          seek_equal {k} stands z = subst (λ (j : ℕ). Sought W S name (record { symbol = j; name = w; at = at' }) (Some symbol)) (sym stands) (record {
             standing = standing;
             passed = passed;
-            inside = omega (arith, seek_whole h);
-            tells = sym (first_symbol W S name whole_symbols symbol is_one (λ j l. (before_differs (name_of W S j) name (passed.each j l)).0) (told_equal (name_of W S symbol) name r order z));
-          }
+            inside = omega (arith, h);
+            tells = sym (first_symbol W S name whole_symbols symbol h (λ j l. (before_differs (name_of W S j) name (passed.each j l)).0) (told_equal (name_of W S symbol) name r order z));
+          })
 
-          pub seek_greater : ((i : ℕ) → Fits w8 (get_or W i 0)) → r ≡ Greater → Sought W S name (record { symbol = symbol; name = w; at = at' }) None
-          seek_greater bytes z = record {
+          pub seek_greater : ((i : ℕ) → Fits w8 (get_or W i 0)) → {k : ℕ} → k ≡ symbol → r ≡ Greater → Sought W S name (record { symbol = k; name = w; at = at' }) None
+          seek_greater bytes {k} stands z = subst (λ (j : ℕ). Sought W S name (record { symbol = j; name = w; at = at' }) None) (sym stands) (record {
             standing = standing;
             passed = passed;
             inside = omega arith;
             tells = sym (no_symbol W S name whole_symbols (λ j l. past j l (ltb j symbol) refl));
-          }
+          })
             where
               after : before name (name_of W S symbol) ≡ true
               after = let f = told_greater (name_of W S symbol) name r order z in before_flip (name_of W S symbol) name f.0 f.1
@@ -194,10 +188,10 @@ module _ {W S : List ℕ} (ok : Symbols W S) where
                   (eq-or-lt_of_le (ltb-false j symbol p))
 
     -- past the last symbol
-    pub seek_end : {name : List ℕ} → length S ≤ symbol * 11 → Passed W S symbol name → Sought W S name (record { symbol = symbol; name = number; at = at }) None
-    seek_end {name} l passed = record {
+    pub seek_end : {name : List ℕ} {k : ℕ} → length S / 11 ≤ symbol → k ≡ symbol → Passed W S symbol name → Sought W S name (record { symbol = k; name = number; at = at }) None
+    seek_end {name} {k} l stands passed = subst (λ (j : ℕ). Sought W S name (record { symbol = j; name = number; at = at }) None) (sym stands) (record {
       standing = so;
       passed = passed;
       inside = omega arith;
-      tells = sym (no_symbol W S name whole_symbols (λ j m. (before_differs (name_of W S j) name (passed.each j (omega (arith, whole_symbols, l)))).0));
-    }
+      tells = sym (no_symbol W S name whole_symbols (λ j m. (before_differs (name_of W S j) name (passed.each j (omega (arith, l, m)))).0));
+    })

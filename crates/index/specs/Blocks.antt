@@ -1,9 +1,10 @@
 -- The index of a body of blocks: for each block, in two bytes each, its place and its first statement. What the fields of a block stand for. Assumes nothing.
-use Rattle.std.specs.Prelude.{◌≡◌, List, ℕ, zero, suc, ◌+◌, ◌*◌, ◌≤◌, ◌<◌, length, get_or}
+use Rattle.std.specs.Prelude.{◌≡◌, List, ℕ, zero, suc, ◌+◌, ◌*◌, ◌≤◌, ◌<◌, length, get_or, Option, MatchOption}
 use Rattle.layout.specs.Number.{number_at}
 use Rattle.files.specs.Program.{tree_at, listed, statement_at, case_at, terminator_of, returns, goto, branch, switch}
 use Rattle.files.specs.Program as program
 use Rattle.index.specs.declared.blocks.Place.{Place}
+use Rattle.index.specs.declared.blocks.Places.{Places}
 use Rattle.index.specs.declared.blocks.Statement.{Statement}
 use Rattle.index.specs.declared.blocks.Terminator.{Terminator}
 use Rattle.index.specs.declared.blocks.Terminator.TheVariants.{Return, Goto, Branch, Switch}
@@ -38,6 +39,20 @@ pub record Blocks (b : List ℕ) : Type 0 where
   pub inside : (k : ℕ) → block_start b k < length b → BlockInside b (block_start b k)
   pub dealt : (k : ℕ) → block_start b k < length b → block_first b k < 65536
   pub short : length b < 65536
+
+-- a place is that of a block of an accepted body, or the end
+pub record Stands (b : List ℕ) (p : Place) : Type 0 where
+  pub blocks : Blocks b
+  pub number : ℕ
+  pub start : p.start ≡ block_start b number
+  pub first : p.first ≡ block_first b number
+  pub most : p.start ≤ length b
+
+-- a step from s gave the place where that stood and left those past that block, or found none left
+abbrev pub Steps : Places → Option Place → Places → Type 0
+Steps s r t = MatchOption r (length s.blocks.now ≤ s.next.start)
+    (λ p. (p ≡ s.next) × (s.next.start < length s.blocks.now) × (t.next.start ≡ s.next.start + block_size s.blocks.now s.next.start)
+    × (t.next.first ≡ s.next.first + number_at s.blocks.now s.next.start 2) × (t.blocks ≡ s.blocks))
 
 -- the part tells of each of the body's n blocks where it starts and which is its first statement
 pub record BlocksIndexed (b part : List ℕ) (n : ℕ) : Type 0 where

@@ -1,9 +1,10 @@
 -- The index of a world's regions: for every fourth region, in two bytes, its place. Assumes nothing.
-use Rattle.std.specs.Prelude.{◌≡◌, List, ◌++◌, ℕ, suc, ◌+◌, ◌-◌, ◌*◌, ◌/◌, ◌^◌, ◌≤◌, ◌<◌, length, Option, None, Some}
+use Rattle.std.specs.Prelude.{◌≡◌, Bool, ◌&&◌, leb, List, ◌++◌, ℕ, suc, ◌+◌, ◌-◌, ◌*◌, ◌/◌, ◌^◌, ◌≤◌, ◌<◌, length, Option, MatchOption}
 use Rattle.layout.specs.Number.{le, number_at}
 use Rattle.layout.specs.Format.{whole}
-use Rattle.files.specs.World.{region, byte_at, bytes_from}
+use Rattle.files.specs.World.{region, bytes_from}
 use Rattle.memory.specs.declared.Image.{Image}
+use Rattle.index.specs.declared.regions.Places.{Places}
 use Rattle.index.specs.Places.{place_from, region_size}
 
 -- one region in so many is in the index
@@ -47,6 +48,17 @@ pub record Regions (b : List ℕ) : Type 0 where
   pub apart : (k : ℕ) → suc k < region_count b → end_at b (region_place b k) ≤ start_at b (region_place b (suc k))
   pub short : length b < 65536
 
+-- a place is that of a region of an accepted body, or the end
+pub record Stands (b : List ℕ) (i : ℕ) : Type 0 where
+  pub regions : Regions b
+  pub number : ℕ
+  pub here : i ≡ region_place b number
+  pub most : number ≤ region_count b
+
+-- a step from s gave the place where that stood and left those past that region, or found none left
+abbrev pub Steps : Places → Option ℕ → Places → Type 0
+Steps s r t = MatchOption r (length s.regions.now ≤ s.at) (λ i. (i ≡ s.at) × (s.at < length s.regions.now) × (t.at ≡ s.at + region_size s.regions.now s.at) × (t.regions ≡ s.regions))
+
 -- the part tells where every region whose number is a multiple of the stride starts, in n entries
 pub record RegionsIndexed (b part : List ℕ) (n : ℕ) : Type 0 where
   pub regions : Regions b
@@ -55,6 +67,10 @@ pub record RegionsIndexed (b part : List ℕ) (n : ℕ) : Type 0 where
   pub at : (k : ℕ) → k < n → number_at part (k * 2) 2 ≡ region_place b (k * stride)
 
 -- ---- the search for an address
+
+-- the region at the place that an entry tells starts by the address, where it is in the body
+unfoldable pub starts_by : List ℕ → ℕ → List ℕ → Bool
+starts_by b a entry = leb (number_at entry 0 2 + 8) (length b) && leb (number_at b (number_at entry 0 2) 8) a
 
 -- the first n regions end by an address
 pub record Clear (b : List ℕ) (n a : ℕ) : Type 0 where
@@ -67,12 +83,6 @@ pub record From (b : List ℕ) (a i : ℕ) : Type 0 where
   pub most : number ≤ region_count b
   pub clear : Clear b number a
 
--- a region is at place i
-pub record Numbered (b : List ℕ) (i : ℕ) : Type 0 where
-  pub number : ℕ
-  pub here : i ≡ region_place b number
-  pub most : number < region_count b
-
 -- the region at place i has the address
 pub record Holding (b : List ℕ) (a i : ℕ) : Type 0 where
   pub number : ℕ
@@ -80,11 +90,6 @@ pub record Holding (b : List ℕ) (a i : ℕ) : Type 0 where
   pub most : number < region_count b
   pub low : start_at b i ≤ a
   pub high : a < end_at b i
-
--- the region of an address, if there is one
-abbrev pub Located : List ℕ → ℕ → Option ℕ → Type 0
-Located b a None = byte_at (whole region b) a ≡ None
-Located b a (Some i) = Holding b a i
 
 -- ---- the answer
 

@@ -1,11 +1,11 @@
 // A routine's blocks by number, and the fields of blocks and statements. The index: for each block, in two bytes each, its place and its first statement.
-ghost use Rattle.std.specs.Prelude.{◌≡◌, ◌+◌, ◌*◌, ◌≤◌, ◌<◌, length, get_or};
+ghost use Rattle.std.specs.Prelude.{◌≡◌, ◌+◌, ◌-◌, ◌*◌, ◌≤◌, ◌<◌, length, get_or};
+ghost use Rattle.std.specs.Iterator.{at_most};
 ghost use Rattle.layout.specs.Number.{number_at};
 ghost use Rattle.files.specs.Program.{case_of, flagged, listed, case_at};
-ghost use Rattle.index.specs.Places.{block_size};
-ghost use Rattle.index.specs.Blocks.{blocks_room, BlockInside, Blocks, BlocksIndexed, BlockTold, Placed, Ends, States};
+ghost use Rattle.index.specs.Blocks.{blocks_room, BlockInside, Blocks, Stands, Steps, BlocksIndexed, BlockTold, Placed, Ends, States};
 
-use files::blocks::{BLOCK, CASE, STATEMENT};
+use files::blocks::{BLOCK, CASE, STATEMENT, cases};
 
 // The bytes of the index: at most 2,730 blocks of at least 24 bytes.
 pub const BLOCKS: usize = 10920;
@@ -14,7 +14,7 @@ pub const BLOCKS: usize = 10920;
 const ENTRY: usize = 4;
 
 // Where a block starts in its body, and which is its first statement.
-#[derive(Clone, Copy)]
+#[derive(Clone, Copy, Default)]
 pub struct Place {
     pub start: usize,
     pub first: usize,
@@ -49,34 +49,12 @@ pub struct Case {
     pub target: usize,
 }
 
-// One byte, as a number.
-fn byte(s: &[u8], at: usize) -> u64
-    requires { at < length s.now }
-    ensures { (result ≡ get_or s.now at 0) × (result < 256) }
-{
-    s[at] as u64
-}
-
-// An address flag, then the address.
-fn address_at(s: &[u8], at: usize) -> Option<u64>
+// An address behind a flag that says whether there is one.
+pub fn address_at(s: &[u8], at: usize) -> Option<u64>
     requires { at + 9 ≤ length s.now }
     ensures { result ≡ flagged (get_or s.now at 0) (number_at s.now (at + 1) 8) }
 {
-    if byte(s, at) == 0 {
-        return None;
-    }
-    Some(layout::get::<8>(s, at + 1))
-}
-
-// The bytes of the block at a place. (By the number of a Switch, 3: of the terminator nothing else is wanted here, and `terminator_at` reads the whole.)
-fn block_size(blocks: &[u8], start: usize) -> usize
-    requires { BlockInside blocks.now start }
-    ensures { (result ≡ block_size blocks.now start) × ((BLOCK ≤ result) × (start + result ≤ length blocks.now)) }
-{
-    if byte(blocks, start + 2) == 3 {
-        return layout::get::<4>(blocks, start + 16) as usize * CASE + BLOCK;
-    }
-    BLOCK
+    (s[at] != 0).then(|| layout::get::<8>(s, at + 1))
 }
 
 // How many statements the block at a place has.
@@ -87,28 +65,55 @@ pub fn statement_count(blocks: &[u8], start: usize) -> usize
     layout::get::<2>(blocks, start) as usize
 }
 
-// The index of the blocks, and how many there are. (A loop by lengths: where the next block is only a block's own cases say.)
+// The places of a body's blocks, one after another: where the next is only a block's own cases say.
+#[derive(Drop)]
+struct Places<'a> {
+    blocks: &'a [u8],
+    next: Place,
+}
+
+impl<'a> Iterator for Places<'a> {
+    type Item = Place;
+
+    ghost can_next = { λ s. Stands s.blocks.now s.next };
+
+    ghost next_gives = { Steps };
+
+    ghost remaining = { λ s. at_most (length s.blocks.now - s.next.start) };
+
+    #[tactic(auto, using(crate::proofs::BlockIndex::stands_inside, crate::proofs::BlockIndex::stands_few, crate::proofs::BlockIndex::stands_on))]
+    fn next(&mut self) -> Option<Place> {
+        let here = self.next;
+        if here.start >= self.blocks.len() {
+            return None;
+        }
+        self.next = Place {
+            start: here.start + BLOCK + cases(self.blocks, here.start),
+            first: here.first + statement_count(self.blocks, here.start),
+        };
+        Some(here)
+    }
+}
+
+// The index of the blocks, and how many there are. (Counted, as texts are.)
+#[tactic(auto, using(crate::proofs::BlockIndex::blocks_filled))]
 pub fn fill_blocks(blocks: &[u8], part: &mut [u8]) -> usize
     requires { (Blocks blocks.now) × (blocks_room ≤ length part.old) }
     ensures { BlocksIndexed blocks.now part.new result }
 {
-    let mut start = 0;
-    let mut first = 0;
+    let from = Place::default();
     let mut count = 0;
-    while start < blocks.len() {
+    for place in (Places { blocks, next: from }) {
         let at = count * ENTRY;
-        let after = first + statement_count(blocks, start);
-        let end = start + block_size(blocks, start);
-        layout::put::<2>(part, at, start as u64);
-        layout::put::<2>(part, at + 2, first as u64);
-        first = after;
-        start = end;
+        layout::put::<2>(part, at, place.start as u64);
+        layout::put::<2>(part, at + 2, place.first as u64);
         count += 1;
     }
     count
 }
 
 // The place of block k.
+#[tactic(auto, using(crate::proofs::BlockIndex::block_placed))]
 pub fn block(part: &[u8], k: usize) -> Place
     requires { BlockTold part.now k }
     ensures { Placed part.now k result }
@@ -124,12 +129,11 @@ pub fn terminator_at(blocks: &[u8], start: usize) -> Terminator
     requires { BlockInside blocks.now start }
     ensures { Ends blocks.now start result }
 {
-    let kind = byte(blocks, start + 2);
     let address = address_at(blocks, start + 3);
     let root = layout::get::<4>(blocks, start + 12) as usize;
     let taken = layout::get::<4>(blocks, start + 16) as usize;
     let next = layout::get::<4>(blocks, start + 20) as usize;
-    match kind {
+    match blocks[start + 2] {
         0 => Terminator::Return,
         1 => Terminator::Goto(taken),
         2 => Terminator::Branch {
@@ -158,18 +162,15 @@ pub fn case_at(blocks: &[u8], start: usize, k: usize) -> Case
     }
 }
 
-// The target of the first of a Switch's cases that has a value, both as 64 bits.
+// The target of the first of a Switch's cases that has a value, both as 64 bits. (Behind the cases, which are so many, the next block stands.)
 pub fn case_of(blocks: &[u8], start: usize, count: usize, value: u64) -> Option<usize>
     requires { start + BLOCK + count * CASE ≤ length blocks.now }
     ensures { result ≡ case_of (listed (case_at blocks.now (start + BLOCK)) 0 count) value }
 {
-    for k in 0..count {
-        let case = case_at(blocks, start, k);
-        if case.value == value {
-            return Some(case.target);
-        }
-    }
-    None
+    (0..count)
+        .map(|k| case_at(blocks, start, k))
+        .find(|case| case.value == value)
+        .map(|case| case.target)
 }
 
 // Statement k.

@@ -1,9 +1,10 @@
 // The bytes of a world at an address. The index: for every fourth region, in two bytes, its place.
 // A count of its entries stands beside the part: this is a fixed place with room for the most, so that its length does not tell; and to cut it for each load
 // would cost each load a comparison.
-ghost use Rattle.std.specs.Prelude.{◌≡◌, cond, IfSome, ◌+◌, ◌*◌, ◌/◌, ◌%◌, ◌≤◌, ◌<◌, length, eqb};
-ghost use Rattle.layout.specs.Number.{number_at, put_number};
-ghost use Rattle.index.specs.Regions.{stride, regions_room, RegionInside, LengthOf, Regions, RegionsIndexed, From, Numbered, Holding, Located, Gathered, ReadFrom, end_at};
+ghost use Rattle.std.specs.Prelude.{◌≡◌, ◌+◌, ◌-◌, ◌≤◌, ◌<◌, length};
+ghost use Rattle.std.specs.Iterator.{at_most};
+ghost use Rattle.layout.specs.Number.{number_at};
+ghost use Rattle.index.specs.Regions.{regions_room, RegionInside, LengthOf, Regions, RegionsIndexed, Stands, Steps, From, Holding, Gathered, ReadFrom, starts_by, end_at};
 
 use files::world::REGION;
 use memory::Image;
@@ -30,16 +31,6 @@ fn length_of(regions: &[u8], at: usize) -> u64
     layout::get::<4>(regions, at + 8)
 }
 
-// Region k, at a place, goes into the index if it is one of those that do.
-fn mark(part: &mut [u8], k: usize, at: usize)
-    requires { k / stride * 2 + 2 ≤ length part.old }
-    ensures { part.new ≡ cond (eqb (k % stride) 0) (put_number part.old (k / stride * 2) 2 at) part.old }
-{
-    if k % STRIDE == 0 {
-        layout::put::<2>(part, k / STRIDE * 2, at as u64);
-    }
-}
-
 // The number of some bytes, at most 8, with one load where they are as many as a load takes.
 fn number_at(s: &[u8], at: usize, bytes: usize) -> u64
     requires { (at + bytes ≤ length s.now) × (bytes ≤ 8) }
@@ -54,77 +45,71 @@ fn number_at(s: &[u8], at: usize, bytes: usize) -> u64
     }
 }
 
-// The index of the regions, and how many entries it has. (A loop by lengths, as `locate`.)
+// The places of a body's regions from one on: where the next is only a region's own length says.
+#[derive(Drop)]
+struct Places<'a> {
+    regions: &'a [u8],
+    at: usize,
+}
+
+impl<'a> Iterator for Places<'a> {
+    type Item = usize;
+
+    ghost can_next = { λ s. Stands s.regions.now s.at };
+
+    ghost next_gives = { Steps };
+
+    ghost remaining = { λ s. at_most (length s.regions.now - s.at) };
+
+    #[tactic(auto, using(crate::proofs::RegionIndex::stands_inside, crate::proofs::RegionIndex::stands_on))]
+    fn next(&mut self) -> Option<usize> {
+        if self.at >= self.regions.len() {
+            return None;
+        }
+        let here = self.at;
+        self.at = here + length_of(self.regions, here) as usize + REGION;
+        Some(here)
+    }
+}
+
+// The index of the regions, and how many entries it has. (Counted, as texts are.)
 pub fn fill_regions(regions: &[u8], part: &mut [u8]) -> usize
     requires { (Regions regions.now) × (regions_room ≤ length part.old) }
     ensures { RegionsIndexed regions.now part.new result }
 {
-    let mut at = 0;
     let mut count = 0;
-    while at < regions.len() {
-        mark(part, count, at);
-        at = at + length_of(regions, at) as usize + REGION;
+    for at in (Places { regions, at: 0 }).step_by(STRIDE) {
+        layout::put::<2>(part, count * 2, at as u64);
         count += 1;
     }
-    (count + STRIDE - 1) / STRIDE
+    count
 }
 
-// A region before which none has an address: by the index, the last that starts by the address, or the first of all. (The library's search wants the numbers
-// themselves in a slice; here the index gives places, and the regions the numbers.)
+// The place that an entry of the index tells.
+fn place_of(entry: &[u8; 2]) -> usize
+    ensures place { result ≡ number_at entry.now 0 2 }
+    ensures small { result < 65536 }
+{
+    layout::get::<2>(entry, 0) as usize
+}
+
+// Whether the region of an entry starts by an address. (Each entry's is in the body, but a search tells its test nothing of what it gives it: so the test looks.)
+#[tactic(auto, unfolding(crate::specs::Regions::starts_by))]
+fn starts_by(regions: &[u8], entry: &[u8; 2], address: u64) -> bool
+    ensures { result ≡ starts_by regions.now address entry.now }
+{
+    let at = place_of(entry);
+    at + 8 <= regions.len() && layout::get::<8>(regions, at) <= address
+}
+
+// A region before which none has an address: by the index, the last that starts by the address, or the first of all.
 fn nearest(regions: &[u8], part: &[u8], count: usize, address: u64) -> usize
     requires { (RegionsIndexed regions.now part.now count) × (1 ≤ count) }
     ensures { From regions.now address result }
 {
-    let mut low = 0;
-    let mut high = count;
-    // A search: either end moves, to a middle that the last answer gives.
-    while low + 1 < high {
-        let middle = low + (high - low) / 2;
-        let at = layout::get::<2>(part, middle * 2) as usize;
-        if start_of(regions, at) <= address {
-            low = middle;
-        } else {
-            high = middle;
-        }
-    }
-    layout::get::<2>(part, low * 2) as usize
-}
-
-// The region that has an address, from a region on. (A loop by lengths: where the next region is only a region's own length says.)
-fn locate(regions: &[u8], from: usize, address: u64) -> Option<usize>
-    requires { (Regions regions.now) × (From regions.now address from) }
-    ensures { Located regions.now address result }
-{
-    let mut at = from;
-    while at < regions.len() {
-        let start = start_of(regions, at);
-        if address < start {
-            return None;
-        }
-        let size = length_of(regions, at);
-        if address - start < size {
-            return Some(at);
-        }
-        at = at + size as usize + REGION;
-    }
-    None
-}
-
-// The region that starts where the one at a place ends.
-fn touching(regions: &[u8], at: usize) -> Option<usize>
-    requires { (Regions regions.now) × (Numbered regions.now at) }
-    ensures located { Located regions.now (end_at regions.now at) result }
-    ensures past { IfSome result (λ next. at < next) }
-{
-    let size = length_of(regions, at);
-    let last = start_of(regions, at) + (size - 1);
-    let next = at + size as usize + REGION;
-    if next < regions.len() {
-        if start_of(regions, next) - last == 1 {
-            return Some(next);
-        }
-    }
-    None
+    let entries = &part.as_chunks::<2>().0[..count];
+    let past = entries.partition_point(|entry| starts_by(regions, entry, address));
+    place_of(&entries[past.saturating_sub(1)])
 }
 
 // More bytes from an address on, those that the region at a place has.
@@ -145,6 +130,7 @@ fn gather(regions: &[u8], at: usize, address: u64, size: usize, image: Image) ->
 }
 
 // The unbroken bytes from an address on, at most so many.
+#[tactic(auto, using(crate::proofs::RegionRead::read_none, crate::proofs::RegionRead::read_all))]
 pub fn read(regions: &[u8], part: &[u8], count: usize, address: u64, size: usize) -> Image
     requires { (RegionsIndexed regions.now part.now count) × (size ≤ 8) }
     ensures { ReadFrom regions.now address size result }
@@ -157,14 +143,18 @@ pub fn read(regions: &[u8], part: &[u8], count: usize, address: u64, size: usize
         return image;
     }
     let from = nearest(regions, part, count, address);
-    let mut next = locate(regions, from, address);
-    // `successors` would give these regions too, but has no bound on how many, so that a `for` over it is not known to end.
-    while let Some(at) = next {
-        image = gather(regions, at, address, size, image);
-        if image.count == size {
+    for at in (Places { regions, at: from }) {
+        let wanted = address + image.count as u64;
+        let start = start_of(regions, at);
+        if wanted < start {
             return image;
         }
-        next = touching(regions, at);
+        if wanted - start < length_of(regions, at) {
+            image = gather(regions, at, address, size, image);
+            if image.count == size {
+                return image;
+            }
+        }
     }
     image
 }

@@ -7,7 +7,8 @@ ghost use Rattle.index.specs.Places.{text_size};
 // The bytes of the index of a body: at most 512 texts.
 pub const TEXTS: usize = 1024;
 
-// The index of a body's texts, and how many there are.
+// The index of a body's texts, and how many there are. (How many is wanted at the end too, so that it is counted and not enumerated.)
+#[tactic(auto, using(crate::proofs::TextIndex::texts_none, crate::proofs::TextIndex::text_filled))]
 pub fn fill_texts(body: &[u8], part: &mut [u8]) -> usize
     requires { (Texts body.now) × (texts_room ≤ length part.old) }
     ensures { (result ≡ text_count body.now) × (TextsIndexed body.now part.new) }
@@ -23,6 +24,7 @@ pub fn fill_texts(body: &[u8], part: &mut [u8]) -> usize
 }
 
 // The text whose length byte is at a place.
+#[tactic(auto, using(crate::proofs::TextIndex::text_read))]
 pub fn text_at(body: &[u8], at: usize) -> &[u8]
     requires { at + text_size body.now at ≤ length body.now }
     ensures { TextAt body.now at result.now }
@@ -33,6 +35,7 @@ pub fn text_at(body: &[u8], at: usize) -> &[u8]
 }
 
 // Text k.
+#[tactic(auto, using(crate::proofs::TextIndex::text_there))]
 pub fn text<'a, 'b>(body: &'a [u8], part: &'b [u8], k: usize) -> &'a [u8]
     requires { (TextsIndexed body.now part.now) × (k < text_count body.now) }
     ensures { result.now ≡ get_or (texts_in body.now) k [] }

@@ -10,7 +10,7 @@ use lib.Seq.{sets, sets-eq, drop-drop, drop_at, take_at, length-take-le, drop-se
 use Rattle.std.proofs.lemmas.List.{drop-take}
 use borrow.Rule.Slice.PartMut.{mid_of, post_of, put_mid}
 use Rattle.layout.specs.Each.{Each, Bytes}
-use Rattle.layout.specs.Number.{num, number_at}
+use Rattle.layout.specs.Number.{num, number_at, located}
 
 -- ---- what holds of every element
 
@@ -112,3 +112,9 @@ part_stored s x a n h l =
 pub mid_put : (a k : ℕ) (s t : List ℕ) → a ≤ length s → length t ≡ k → take k (drop a (put_mid a k s t)) ≡ t
 mid_put a k s t h l =
     ap (take k) (drop_at (take a s) (t ++ post_of a k s) a (length-take-le a s h)) ∙ take_at t (post_of a k s) k l
+
+-- ---- a part of a list, located by two numbers in it
+
+pub located_is : (s : List ℕ) (i k start size : ℕ) → start ≡ number_at s i k → size ≡ number_at s (i + k) k → take (start + size - start) (drop start s) ≡ located s i k
+unfolding located
+located_is s i k start size p q = ap₂ (λ (n a : ℕ). take n (drop a s)) {x = start + size - start} {y = number_at s (i + k) k} (omega (arith, q)) p

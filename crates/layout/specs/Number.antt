@@ -19,3 +19,7 @@ number_at s i k = num (take k (drop i s))
 -- the list with a number stored in k bytes from index i on
 unfoldable pub put_number : List ℕ → ℕ → ℕ → ℕ → List ℕ
 put_number s i k n = sets s i (le k n)
+
+-- the bytes that two numbers of k bytes at index i tell of: where they start, and how many they are
+unfoldable pub located : List ℕ → ℕ → ℕ → List ℕ
+located s i k = take (number_at s (i + k) k) (drop (number_at s i k) s)

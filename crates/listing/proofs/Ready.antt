@@ -1,13 +1,13 @@
 -- An accepted run: what its routine and its record give to those that print its lines. Assumes nothing.
 use mathlib.Core.Path.{◌≡◌, sym, ap₂, ◌∙◌, subst}
 use mathlib.Core.List.{List}
-use Prim.Native.Nat.{ℕ, ◌+◌, ◌-◌, ◌*◌, ◌≤◌, ◌<◌}
+use Prim.Native.Nat.{ℕ, ◌≤◌, ◌<◌}
 use native.Mathlib.Omega.{arith}
-use lib.ListN.{length, take, drop, length-append}
+use lib.ListN.{length, take, length-append}
 use Rattle.layout.specs.Number.{number_at}
-use Rattle.files.specs.FileTable.{body, HasBody}
+use Rattle.files.specs.FileTable.{body}
 use Rattle.files.specs.Refusal.{routine_refusal}
-use Rattle.files.proofs.Accepted.{run, routine_body}
+use Rattle.files.proofs.Accepted.{run}
 use Rattle.index.specs.Texts.{text_count, Texts}
 use Rattle.index.proofs.Accepted.{routine_names_lem}
 use Rattle.definition.specs.Record.{join, pairs, layout, Ran, bodies, record_bytes, body_at}
@@ -22,10 +22,6 @@ use Rattle.text.proofs.Listed.{stop_ready, steps_ready, variables_ready}
 use Rattle.listing.specs.Accepted.{Listable, RunOf}
 
 -- ---- the bodies of a record
-
-pub body_is : (r : List ℕ) (i start size : ℕ) → start ≡ number_at r (8 * i) 4 → size ≡ number_at r (8 * i + 4) 4 → take (start + size - start) (drop start r) ≡ body_at r i
-unfolding body_at
-body_is r i start size p q = ap₂ (λ (n k : ℕ). take n (drop k r)) {x = start + size - start} {y = number_at r (8 * i + 4) 4} (omega (arith, q)) p
 
 module _ {n : ℕ} {r b : List ℕ} (l : Listable n r) where
   pub stop_of_lem : b ≡ body_at r 0 → StopThere n b
@@ -56,14 +52,8 @@ module _ (routine world call : List ℕ) (h : number routine world call 65536 wo
 -- ---- an accepted run
 
 module _ {routine bytes : List ℕ} (x : RunOf routine bytes) where
-  routine_good : routine_refusal routine ≡ 0
+  pub routine_good : routine_refusal routine ≡ 0
   routine_good = (run routine x.world x.call (accepted_run routine x.world x.call 65536 workspace_needed x.accepted).files).routine
-
-  pub names_body : HasBody routine 0
-  names_body = routine_body routine routine_good 0 (omega arith)
-
-  pub head_body : HasBody routine 2
-  head_body = routine_body routine routine_good 2 (omega arith)
 
   module _ {names : List ℕ} (e : names ≡ body routine 0) where
     pub names_ready : Texts names

@@ -4,7 +4,7 @@ use Rattle.layout.specs.Number.{number_at}
 use Rattle.definition.specs.Record.{body_at}
 use Rattle.definition.specs.Run.{number, record_of, workspace_needed}
 use Rattle.text.specs.Read.{StopThere}
-use Rattle.text.proofs.Listing.{StepsLeft, VariablesLeft}
+use Rattle.text.specs.Left.{StepsLeft, VariablesLeft}
 
 -- pair i is there, and the body that it locates
 pub record Located (bytes : List ℕ) (i : ℕ) : Type 0 where

@@ -2,11 +2,19 @@
 ghost use Rattle.std.specs.Prelude.{◌≡◌, ◌≤◌, length};
 ghost use Rattle.index.specs.Texts.{text_count};
 ghost use Rattle.definition.specs.Record.{body_at};
-ghost use Rattle.text.proofs.Listing.{StepsLeft, VariablesLeft};
+ghost use Rattle.text.specs.Left.{StepsLeft, VariablesLeft};
 ghost use Rattle.listing.specs.Accepted.{Located, Listable, RunOf};
 
+use files::checked::Routine;
 use std::io;
-use text::bodies::{HeadBytes, Names, StepBytes, StopBytes, VariableBytes};
+use text::bodies::{HeadBytes, Names, StopBytes, VariableBytes};
+
+// The numbers of the bodies of a record that lines are made of.
+const STOP: usize = 0;
+
+const STEPS: usize = 2;
+
+const VARIABLES: usize = 3;
 
 // Where lines are printed, and the buffer that each is made in.
 #[derive(Drop)]
@@ -32,15 +40,11 @@ impl<'a, P: Print> Printer<'a, P> {
         self.rt.write_all(&self.out[..size])
     }
 
-    // By lengths: where the next step is only a step's own size says.
     fn steps(&mut self, names: Names, steps: &[u8]) -> io::Result<()>
         requires { StepsLeft (text_count names.body.now) steps.now }
     {
-        let mut rest = steps;
-        while !rest.is_empty() {
-            let step = StepBytes { names, bytes: rest };
+        for step in names.steps(steps) {
             self.line(text::step_line, step)?;
-            rest = &rest[step.size()..];
         }
         Ok(())
     }
@@ -62,39 +66,38 @@ impl<'a, P: Print> Printer<'a, P> {
         let names = head.names;
         let stop = StopBytes {
             names,
-            bytes: body(record, 0),
+            bytes: body(record, STOP),
         };
         self.line(text::header, head)?;
-        self.steps(names, body(record, 2))?;
+        self.steps(names, body(record, STEPS))?;
         self.line(text::stop_line, stop)?;
-        self.variables(names, body(record, 3))
+        self.variables(names, body(record, VARIABLES))
     }
 
     // The listing of an accepted run, from its routine and its record.
     fn listing(&mut self, routine: &[u8], record: &[u8]) -> io::Result<()>
         requires { RunOf routine.now «record».now }
     {
+        let routine = Routine { bytes: routine };
         let mut part = [0u8; index::texts::TEXTS];
-        let body = files::table::body(routine, 0);
+        let body = routine.names();
         index::texts::fill_texts(body, &mut part);
         let names = Names { body, part: &part };
         let head = HeadBytes {
             names,
-            bytes: files::table::body(routine, 2),
+            bytes: routine.head(),
         };
         self.lines(head, record)
     }
 }
 
 // What pair i of a record locates.
-#[tactic(auto, using(crate::proofs::Ready::body_is))]
+#[tactic(auto, unfolding(definition::specs::Record::body_at, layout::specs::Number::located))]
 fn body(record: &[u8], i: usize) -> &[u8]
     requires { Located «record».now i }
     ensures { result.now ≡ body_at «record».now i }
 {
-    let start = layout::get::<4>(record, 8 * i) as usize;
-    let end = start + layout::get::<4>(record, 8 * i + 4) as usize;
-    &record[start..end]
+    layout::located::<4>(record, 8 * i)
 }
 
 // A run with the buffers that the listing lends, and its listing.

@@ -1,6 +1,6 @@
 -- What executing an Assign is, from what the code did for it. Assumes nothing.
 use mathlib.Core.Path.{◌≡◌, refl, sym, ap, ◌∙◌, subst}
-use mathlib.Core.Bool.{Bool, true, false, not}
+use mathlib.Core.Bool.{Bool, true, false}
 use mathlib.Core.List.{List}
 use Prim.Native.Nat.{ℕ, ◌+◌}
 use lib.Dec.{eqb}
@@ -41,16 +41,16 @@ execute_assign E t e = rw (e, execute)
 
 module _ {b s r : List ℕ} {n : ℕ} {w₀ o₀ : List ℕ} {q : Bool} {w o : List ℕ} (a : Assigns b s r n w₀ o₀ q w o) where
   -- it told something, or ended short
-  told_on : {t : Tree} → not q ≡ false → Stands b n t → Goes (given b s r) (λ x. execute x.env (look x.env t)) w₀ o₀ (ended (told_in w)) w o
+  told_on : {t : Tree} → q ≡ true → Stands b n t → Goes (given b s r) (λ x. execute x.env (look x.env t)) w₀ o₀ (ended (told_in w)) w o
   told_on {t} p h = gave_on q (told_in w) (short_in w) p (a.goes t h)
 
-  untold_on : {t : Tree} → not q ≡ true → Stands b n t → Goes (given b s r) (λ x. execute x.env (look x.env t)) w₀ o₀ (short (short_of (short_in w))) w o
+  untold_on : {t : Tree} → q ≡ false → Stands b n t → Goes (given b s r) (λ x. execute x.env (look x.env t)) w₀ o₀ (short (short_of (short_in w))) w o
   untold_on {t} p h = fell_on q (told_in w) (short_in w) p (a.goes t h)
 
-  pub assigned_tells : {v : Val} {p : Bool} {w' : List ℕ} → not q ≡ false → Gives w v p w' → Assigns b s r n w₀ o₀ p w' o
+  pub assigned_tells : {v : Val} {p : Bool} {w' : List ℕ} → q ≡ true → Gives w v p w' → Assigns b s r n w₀ o₀ p w' o
   assigned_tells {w' = w'} e g = record { goes = λ t h. beside_after g.beside (told (by_true (short_in w') g.yes g.told) (told_on e h)) }
 
-  pub assigned_fails : not q ≡ true → Assigns b s r n w₀ o₀ false w o
+  pub assigned_fails : q ≡ false → Assigns b s r n w₀ o₀ false w o
   assigned_fails e = record { goes = λ t h. untold_on e h }
 
   valued : {z : Ending Val} {w' : List ℕ} → kind_of b n ≡ 13
@@ -62,10 +62,10 @@ module _ {b s r : List ℕ} {n : ℕ} {w₀ o₀ : List ℕ} {q : Bool} {w o : L
       ∙ ap (λ (m : Act Did). m >>= λ d. done (ev.value_of d.wrote)) (sym (execute_assign x.env (look x.env (tree (node_of b n) ts)) (eq-eqb _ _ k))))
       (f _ (stands i h))
 
-  pub assigned_evals : {p : Bool} {w' : List ℕ} → kind_of b n ≡ 13 → not q ≡ false → Gives w (ev.value_of (told_in w).wrote) p w' → Evaluates b s r n w₀ o₀ p w' o
+  pub assigned_evals : {p : Bool} {w' : List ℕ} → kind_of b n ≡ 13 → q ≡ true → Gives w (ev.value_of (told_in w).wrote) p w' → Evaluates b s r n w₀ o₀ p w' o
   assigned_evals k e g = record { goes = valued k (λ t h. goes (λ x d. done (ev.value_of d.wrote)) (told_on e h) (gives_goes g)) }
 
-  pub assigned_short : kind_of b n ≡ 13 → not q ≡ true → Evaluates b s r n w₀ o₀ false w o
+  pub assigned_short : kind_of b n ≡ 13 → q ≡ false → Evaluates b s r n w₀ o₀ false w o
   assigned_short k e = record { goes = valued k (λ t h. halts (λ x d. done (ev.value_of d.wrote)) _ (untold_on e h)) }
 
 -- ---- an Assign executed
@@ -106,11 +106,11 @@ module _ {b s r : List ℕ} {n m : ℕ} {w₀ o₀ : List ℕ} {w o : List ℕ} 
       go : (t u : Tree) → Stands b (n + 1) t → Stands b m u → Goes (given b s r) (λ x. assign x.env (look x.env t) (look x.env u)) w₀ o₀ (told_end d w) w o
       go t _ h (stands {ts = us} i j) = acts (λ y x _. assign_val_lem x.env _ _ (ne_eqb _ _ (λ z. ne (p ∙ z)))) (f t _ h (stands i j))
 
-  pub val_executes : {q : Bool} {w₁ o₁ : List ℕ} → (k ≡ 17 → ⊥) → Evaluates b s r m w₀ o₀ q w₁ o₁ → not q ≡ false → AssignsVal b s r (n + 1) (result_in w₁) w₁ o₁ d w o → Assigns b s r n w₀ o₀ d w o
+  pub val_executes : {q : Bool} {w₁ o₁ : List ℕ} → (k ≡ 17 → ⊥) → Evaluates b s r m w₀ o₀ q w₁ o₁ → q ≡ true → AssignsVal b s r (n + 1) (result_in w₁) w₁ o₁ d w o → Assigns b s r n w₀ o₀ d w o
   val_executes ne ev e a = right ne (λ t u h i. goes (λ x. assign_val x.env (look x.env t)) (ended_on ev e i) (a.goes t h))
 
 pub val_fails : {b s r : List ℕ} {n m : ℕ} {w₀ o₀ : List ℕ} {w o : List ℕ} {k : ℕ} {q : Bool} → kind_of b n ≡ 13 → m ≡ next b (n + 1) → k ≡ kind_of b m → (k ≡ 17 → ⊥)
-    → Evaluates b s r m w₀ o₀ q w o → not q ≡ true → Assigns b s r n w₀ o₀ false w o
+    → Evaluates b s r m w₀ o₀ q w o → q ≡ false → Assigns b s r n w₀ o₀ false w o
 val_fails ka em p ne ev e = right ka em p ne (λ t u h i. halts (λ x. assign_val x.env (look x.env t)) _ (short_on ev e i))
 
 -- ---- a value to a place
@@ -165,13 +165,13 @@ through {b} {s} {r} {l} v {w₀} {o₀} {e} {w} {o} k (stands {ts = ts} i h) f =
 
 module _ {b s r : List ℕ} {l : ℕ} {v : Val} {w₀ o₀ : List ℕ} {k : ℕ} {p : Target} {q : Bool} {w₁ o₁ : List ℕ}
     (ek : k ≡ kind_of b l) (k9 : k ≡ 9) (f : Fine b l) (ev : v ≡ value_at (registers_part w₀) 0) (tg : Targets b w₀ (l + 1) p) (et : Evaluates b s r p.node w₀ o₀ q w₁ o₁) where
-  pub store_assigns : (d : Bool) {w : List ℕ} → not q ≡ false → Works (store_through (l + 1) (result_in w₁) p.ty v) w₁ (told_end d w) w → AssignsVal b s r l (result_in w₀) w₀ o₀ d w o₁
+  pub store_assigns : (d : Bool) {w : List ℕ} → q ≡ true → Works (store_through (l + 1) (result_in w₁) p.ty v) w₁ (told_end d w) w → AssignsVal b s r l (result_in w₀) w₀ o₀ d w o₁
   store_assigns d e st = assigns_read ev (record {
     goes = λ t h. through v (sym ek ∙ k9) h
         (λ u i. goes (λ x y. store_through (l + 1) y.0 y.1 v) (pointed_on (deref_kid (sym ek ∙ k9) f) tg et e i) (st.goes (given b s r) o₁));
   })
 
-  pub store_fails : not q ≡ true → AssignsVal b s r l (result_in w₀) w₀ o₀ false w₁ o₁
+  pub store_fails : q ≡ false → AssignsVal b s r l (result_in w₀) w₀ o₀ false w₁ o₁
   store_fails e = assigns_read ev (record {
     goes = λ t h. through v (sym ek ∙ k9) h (λ u i. halts (λ x y. store_through (l + 1) y.0 y.1 v) _ (unpointed_on (deref_kid (sym ek ∙ k9) f) tg et e i));
   })

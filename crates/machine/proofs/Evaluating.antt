@@ -1,13 +1,13 @@
 -- What evaluating each kind of node is, from what the code did for it: laws from what is known of the code's calls to what it ensures. Assumes nothing.
 use Rattle.std.specs.Prelude.{Option, Some}
 use mathlib.Core.Path.{◌≡◌, refl, sym, ap, ◌∙◌, subst}
-use mathlib.Core.Bool.{Bool, true, false, not}
+use mathlib.Core.Bool.{Bool, true, false}
 use mathlib.Core.List.{List, []}
 use Prim.Native.Nat.{ℕ, ◌+◌, ◌*◌}
 use native.Mathlib.Omega.{arith}
 use lib.ListN.{get_or}
 use lib.Dec.{eqb}
-use borrow.Author.Tests.{eqb-false, not-true, not-false}
+use borrow.Author.Tests.{eqb-false}
 use Rattle.layout.proofs.ArmLaws.{NoneBelow}
 use Rattle.std.specs.Prelude.{Result, Ok, Err}
 use Rattle.value.specs.declared.Val.{Val}
@@ -49,11 +49,11 @@ by k e f = record { goes = λ t h. standing k e f h }
 
 -- of any function of the cycle
 module _ {A : Type 0} {g : How → Given} {m : Scene → Act A} {w₀ o₀ : List ℕ} (q : Bool) (a : A) (y : Short) {w o : List ℕ} where
-  pub gave_on : not q ≡ false → Goes g m w₀ o₀ (end_by q a y) w o → Goes g m w₀ o₀ (ended a) w o
-  gave_on e p = told (sym (by_true y (not-false q e) refl)) p
+  pub gave_on : q ≡ true → Goes g m w₀ o₀ (end_by q a y) w o → Goes g m w₀ o₀ (ended a) w o
+  gave_on e p = told (sym (by_true y e refl)) p
 
-  pub fell_on : not q ≡ true → Goes g m w₀ o₀ (end_by q a y) w o → Goes g m w₀ o₀ (short (short_of y)) w o
-  fell_on e p = told (sym (by_false a (not-true q e) refl)) p
+  pub fell_on : q ≡ false → Goes g m w₀ o₀ (end_by q a y) w o → Goes g m w₀ o₀ (short (short_of y)) w o
+  fell_on e p = told (sym (by_false a e refl)) p
 
 -- the value that is read from the registers
 pub result_is : {v : Val} (w : List ℕ) → v ≡ value_at (registers_part w) 0 → result_in w ≡ v
@@ -61,18 +61,18 @@ unfolding result_in
 result_is w e = sym e
 
 module _ {b s r : List ℕ} {n : ℕ} {w₀ o₀ : List ℕ} {q : Bool} {w o : List ℕ} (ev : Evaluates b s r n w₀ o₀ q w o) where
-  pub ended_on : {t : Tree} → not q ≡ false → Stands b n t → Goes (given b s r) (λ x. eval (look x.env t)) w₀ o₀ (ended (result_in w)) w o
+  pub ended_on : {t : Tree} → q ≡ true → Stands b n t → Goes (given b s r) (λ x. eval (look x.env t)) w₀ o₀ (ended (result_in w)) w o
   ended_on {t} e h = gave_on q (result_in w) (short_in w) e (ev.goes t h)
 
   -- with the value by another name
-  pub ended_as : {t : Tree} {v : Val} → not q ≡ false → v ≡ value_at (registers_part w) 0 → Stands b n t → Goes (given b s r) (λ x. eval (look x.env t)) w₀ o₀ (ended v) w o
+  pub ended_as : {t : Tree} {v : Val} → q ≡ true → v ≡ value_at (registers_part w) 0 → Stands b n t → Goes (given b s r) (λ x. eval (look x.env t)) w₀ o₀ (ended v) w o
   ended_as e p h = told (ap (λ (v : Val). ended v) (sym (result_is w p))) (ended_on e h)
 
-  pub short_on : {t : Tree} → not q ≡ true → Stands b n t → Goes (given b s r) (λ x. eval (look x.env t)) w₀ o₀ (short (short_of (short_in w))) w o
+  pub short_on : {t : Tree} → q ≡ false → Stands b n t → Goes (given b s r) (λ x. eval (look x.env t)) w₀ o₀ (short (short_of (short_in w))) w o
   short_on {t} e h = fell_on q (result_in w) (short_in w) e (ev.goes t h)
 
   -- what is ready after an evaluation that gave a value
-  pub ready_on : ReadyIn (given b s r) w₀ → not q ≡ false → Fine b n → ReadyIn (given b s r) w
+  pub ready_on : ReadyIn (given b s r) w₀ → q ≡ true → Fine b n → ReadyIn (given b s r) w
   ready_on p e f = ready_after (ended_on e f.spells) p
 
 -- the tree at node n is evaluated, and its value is v, which need not be in the registers
@@ -82,7 +82,7 @@ pub record Valued (b s r : List ℕ) (n : ℕ) (w₀ o₀ : List ℕ) (v : Val) 
 pub valued_at_hand : {b s r : List ℕ} {n : ℕ} {w o : List ℕ} {slot : Option Val} {v : Val} → AtHand b n w slot → slot ≡ Some v → Valued b s r n w o v w o
 valued_at_hand {b} {s} {r} {o = o} a e = record { goes = a.goes _ e (given b s r) o }
 
-pub valued_as : {b s r : List ℕ} {n : ℕ} {w₀ o₀ : List ℕ} {q : Bool} {w o : List ℕ} {v : Val} → Evaluates b s r n w₀ o₀ q w o → not q ≡ false → v ≡ value_at (registers_part w) 0
+pub valued_as : {b s r : List ℕ} {n : ℕ} {w₀ o₀ : List ℕ} {q : Bool} {w o : List ℕ} {v : Val} → Evaluates b s r n w₀ o₀ q w o → q ≡ true → v ≡ value_at (registers_part w) 0
     → Valued b s r n w₀ o₀ v w o
 valued_as ev e p = record { goes = λ t h. ended_as ev e p h }
 
@@ -162,7 +162,7 @@ module _ {b s r : List ℕ} {n : ℕ} {w₀ o₀ : List ℕ} {q : Bool} {w o : L
 -- ---- Cast
 
 module _ {b s r : List ℕ} {n : ℕ} {w₀ o₀ : List ℕ} {q : Bool} {w o : List ℕ} (k : kind_of b n ≡ 8) (ev : Evaluates b s r (n + 1) w₀ o₀ q w o) where
-  pub cast_evals : {u : Bool} {w' : List ℕ} → not q ≡ false → Gives w (cast_to (result_in w) (type_at (tables w) (ref_of b n))) u w' → Evaluates b s r n w₀ o₀ u w' o
+  pub cast_evals : {u : Bool} {w' : List ℕ} → q ≡ true → Gives w (cast_to (result_in w) (type_at (tables w) (ref_of b n))) u w' → Evaluates b s r n w₀ o₀ u w' o
   unfolding eval_as look kid
   cast_evals {u} {w'} eq e = by 8 k (λ ts h. go ts h)
     where
@@ -170,7 +170,7 @@ module _ {b s r : List ℕ} {n : ℕ} {w₀ o₀ : List ℕ} {q : Bool} {w o : L
       go ts (a_cast l h _) = goes _ (ended_on ev eq h) (beside_after e.beside (told (by_true (short_in w') e.yes e.value)
           (done_goes (λ x. cast_to (result_in w) (type_of (get_or x.env.types (ref_of b n) []))) (λ _ x m. ap (cast_to (result_in w)) (sym (m.types (ref_of b n) l))))))
 
-  pub cast_short : not q ≡ true → Evaluates b s r n w₀ o₀ false w o
+  pub cast_short : q ≡ false → Evaluates b s r n w₀ o₀ false w o
   unfolding eval_as look kid
   cast_short eq = by 8 k (λ ts h. go ts h)
     where
@@ -180,30 +180,30 @@ module _ {b s r : List ℕ} {n : ℕ} {w₀ o₀ : List ℕ} {q : Bool} {w o : L
 -- ---- Ternary
 
 module _ {b s r : List ℕ} {n : ℕ} {w₀ o₀ : List ℕ} {p : Bool} {w₁ o₁ : List ℕ} (k : kind_of b n ≡ 11) (ea : Evaluates b s r (n + 1) w₀ o₀ p w₁ o₁) where
-  pub ternary_short : not p ≡ true → Evaluates b s r n w₀ o₀ false w₁ o₁
+  pub ternary_short : p ≡ false → Evaluates b s r n w₀ o₀ false w₁ o₁
   unfolding eval_as look kid
   ternary_short ep = by 11 k (λ ts h. go ts h)
     where
       go : (ts : Trees) → Shape b 11 n ts → Goes (given b s r) (λ x. act_as b x 11 n ts) w₀ o₀ (end_in false w₁) w₁ o₁
       go ts (a_ternary h i j e) = halts _ _ (short_on ea ep h)
 
-  module _ {m : ℕ} {q : Bool} {w₂ o₂ : List ℕ} (ep : not p ≡ false) (em : m ≡ next b (n + 1)) (eb : Evaluates b s r m w₁ o₁ q w₂ o₂) where
-    pub ternary_short_second : not q ≡ true → Evaluates b s r n w₀ o₀ false w₂ o₂
+  module _ {m : ℕ} {q : Bool} {w₂ o₂ : List ℕ} (ep : p ≡ true) (em : m ≡ next b (n + 1)) (eb : Evaluates b s r m w₁ o₁ q w₂ o₂) where
+    pub ternary_short_second : q ≡ false → Evaluates b s r n w₀ o₀ false w₂ o₂
     unfolding eval_as look kid
     ternary_short_second eq = by 11 k (λ ts h. go ts h)
       where
         go : (ts : Trees) → Shape b 11 n ts → Goes (given b s r) (λ x. act_as b x 11 n ts) w₀ o₀ (end_in false w₂) w₂ o₂
         go ts (a_ternary h i j e) = goes _ (ended_on ea ep h) (halts _ _ (short_on eb eq (stands_at em i)))
 
-    module _ {l : ℕ} {z : Bool} {w₃ o₃ : List ℕ} (eq : not q ≡ false) (el : l ≡ next b m) (ec : Evaluates b s r l w₂ o₂ z w₃ o₃) where
-      pub ternary_short_third : not z ≡ true → Evaluates b s r n w₀ o₀ false w₃ o₃
+    module _ {l : ℕ} {z : Bool} {w₃ o₃ : List ℕ} (eq : q ≡ true) (el : l ≡ next b m) (ec : Evaluates b s r l w₂ o₂ z w₃ o₃) where
+      pub ternary_short_third : z ≡ false → Evaluates b s r n w₀ o₀ false w₃ o₃
       unfolding eval_as look kid
       ternary_short_third ez = by 11 k (λ ts h. go ts h)
         where
           go : (ts : Trees) → Shape b 11 n ts → Goes (given b s r) (λ x. act_as b x 11 n ts) w₀ o₀ (end_in false w₃) w₃ o₃
           go ts (a_ternary h i j e) = goes _ (ended_on ea ep h) (goes _ (ended_on eb eq (stands_at em i)) (halts _ _ (short_on ec ez (stands_at (el ∙ ap (next b) em) j))))
 
-      pub ternary_evals : {x y : Val} {u : Bool} {w' : List ℕ} → not z ≡ false → x ≡ value_at (registers_part w₁) 0 → y ≡ value_at (registers_part w₂) 0 → Gives w₃ (chosen x y (result_in w₃)) u w'
+      pub ternary_evals : {x y : Val} {u : Bool} {w' : List ℕ} → z ≡ true → x ≡ value_at (registers_part w₁) 0 → y ≡ value_at (registers_part w₂) 0 → Gives w₃ (chosen x y (result_in w₃)) u w'
           → Evaluates b s r n w₀ o₀ u w' o₃
       unfolding eval_as look kid
       ternary_evals {u = u} {w' = w'} ez ex ey e = by 11 k (λ ts h. go ts h)
@@ -219,7 +219,7 @@ answers (Ok u) = done_goes (λ _. u) (λ h x m. refl)
 answers (Err DivisionByZero) = fail_goes
 
 module _ {b s r : List ℕ} {n : ℕ} {w₀ o₀ : List ℕ} (k : kind_of b n ≡ 12) where
-  pub binary_short : {p : Bool} {w₁ o₁ : List ℕ} → Evaluates b s r (n + 1) w₀ o₀ p w₁ o₁ → not p ≡ true → Evaluates b s r n w₀ o₀ false w₁ o₁
+  pub binary_short : {p : Bool} {w₁ o₁ : List ℕ} → Evaluates b s r (n + 1) w₀ o₀ p w₁ o₁ → p ≡ false → Evaluates b s r n w₀ o₀ false w₁ o₁
   unfolding eval_as look kid
   binary_short {w₁ = w₁} {o₁ = o₁} ea ep = by 12 k (λ ts h. go ts h)
     where
@@ -227,7 +227,7 @@ module _ {b s r : List ℕ} {n : ℕ} {w₀ o₀ : List ℕ} (k : kind_of b n �
       go ts (a_binary h i e) = halts _ _ (short_on ea ep h)
 
   module _ {l : Val} {w₁ o₁ : List ℕ} (ea : Valued b s r (n + 1) w₀ o₀ l w₁ o₁) where
-    pub binary_short_right : {q : Bool} {w₂ o₂ : List ℕ} → Evaluates b s r (next b (n + 1)) w₁ o₁ q w₂ o₂ → not q ≡ true → Evaluates b s r n w₀ o₀ false w₂ o₂
+    pub binary_short_right : {q : Bool} {w₂ o₂ : List ℕ} → Evaluates b s r (next b (n + 1)) w₁ o₁ q w₂ o₂ → q ≡ false → Evaluates b s r n w₀ o₀ false w₂ o₂
     unfolding eval_as look kid
     binary_short_right {w₂ = w₂} {o₂ = o₂} eb eq = by 12 k (λ ts h. go ts h)
       where
@@ -294,7 +294,7 @@ module _ {b s r : List ℕ} {w₀ o₀ w₁ o₁ : List ℕ} where
   kids_one (a_kid {t = t} {ts = ts} lt h k) ne ev ek =
       assoc (λ x. eval (look x.env t)) _ _ (goes _ (ev.goes t h) (assoc (λ x. evals (looks x.env ts)) _ _ (ek.goes ts k)))
 
-  kids_stop : {p : Bool} {n e : ℕ} {ts : Trees} → KidsAt b n e ts → (n ≡ e → ⊥) → Evaluates b s r n w₀ o₀ p w₁ o₁ → not p ≡ true
+  kids_stop : {p : Bool} {n e : ℕ} {ts : Trees} → KidsAt b n e ts → (n ≡ e → ⊥) → Evaluates b s r n w₀ o₀ p w₁ o₁ → p ≡ false
       → Goes (given b s r) (λ x. kids_act x ts) w₀ o₀ (end_in false w₁) w₁ o₁
   unfolding look evals
   kids_stop no_kid ne ev ep = absurd (ne refl)
@@ -305,5 +305,5 @@ module _ {b s r : List ℕ} {w₀ o₀ w₁ o₁ : List ℕ} where
     kids_evals {q = q} {w = w} {o = o} ev em ek =
         record { goes = λ ts h. kids_one h ne ev (subst (λ (j : ℕ). EvaluatesKids b s r j e w₁ o₁ q w o) em ek) }
 
-    pub kids_short : {p : Bool} → Evaluates b s r n w₀ o₀ p w₁ o₁ → not p ≡ true → EvaluatesKids b s r n e w₀ o₀ false w₁ o₁
+    pub kids_short : {p : Bool} → Evaluates b s r n w₀ o₀ p w₁ o₁ → p ≡ false → EvaluatesKids b s r n e w₀ o₀ false w₁ o₁
     kids_short ev ep = record { goes = λ ts h. kids_stop h ne ev ep }

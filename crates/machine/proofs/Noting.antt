@@ -1,6 +1,6 @@
 -- What a statement that is no Assign does: its value, and a note. Assumes nothing.
 use mathlib.Core.Path.{◌≡◌, refl, ap, ap₂, ◌∙◌}
-use mathlib.Core.Bool.{Bool, true, false, not, ◌||◌}
+use mathlib.Core.Bool.{Bool, true, false, ◌||◌}
 use mathlib.Core.List.{List}
 use Prim.Native.Nat.{ℕ}
 use lib.Dec.{eqb}
@@ -53,8 +53,8 @@ noted_goes {g} {w} {o} k v = go (eqb k 14 || eqb k 15)
 module _ {b s r : List ℕ} {n : ℕ} {w₀ o₀ : List ℕ} {q : Bool} {w o : List ℕ} (ev : Evaluates b s r n w₀ o₀ q w o) where
   other_goes : {t : Tree} → (kind_of b n ≡ 13 → ⊥) → Stands b n t → (z : Bool) → q ≡ z → Goes (given b s r) (λ x. execute x.env (look x.env t)) w₀ o₀ (noted_end (kind_of b n) z w) w o
   unfolding look
-  other_goes ne (stands {ts = ts} i h) true e = acts (λ _ x _. execute_other x.env _ (ne_eqb _ _ ne)) (goes _ (ended_on ev (ap not e) (stands i h)) (noted_goes (kind_of b n) (result_in w)))
-  other_goes ne (stands {ts = ts} i h) false e = acts (λ _ x _. execute_other x.env _ (ne_eqb _ _ ne)) (halts _ _ (short_on ev (ap not e) (stands i h)))
+  other_goes ne (stands {ts = ts} i h) true e = acts (λ _ x _. execute_other x.env _ (ne_eqb _ _ ne)) (goes _ (ended_on ev e (stands i h)) (noted_goes (kind_of b n) (result_in w)))
+  other_goes ne (stands {ts = ts} i h) false e = acts (λ _ x _. execute_other x.env _ (ne_eqb _ _ ne)) (halts _ _ (short_on ev e (stands i h)))
 
 -- ---- what the caller is given
 

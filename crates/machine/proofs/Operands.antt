@@ -1,11 +1,10 @@
 -- How far a loop over the operands of a Ternary or of a Binary has come: which are evaluated, and what is kept of their values. Assumes nothing.
 use Rattle.std.specs.Prelude.{Option, Some}
 use mathlib.Core.Path.{◌≡◌, refl, sym, subst}
-use mathlib.Core.Bool.{Bool, true, false, not}
+use mathlib.Core.Bool.{Bool, true, false}
 use mathlib.Core.List.{List}
 use Prim.Native.Nat.{ℕ, ◌+◌, ◌<◌, ◌≤◌}
 use native.Mathlib.Omega.{arith}
-use borrow.Author.Tests.{not-false}
 use Rattle.value.specs.declared.Val.{Val}
 use Rattle.value.specs.Operators.{binary_of, operator_of}
 use Rattle.files.specs.Nodes.{kind_of, flag_of}
@@ -23,8 +22,8 @@ use Rattle.hosting.proofs.Shapes.{ternary_first, ternary_second, ternary_third, 
 use Rattle.machine.proofs.Ranks.{left, first_falls, second_falls, third_falls}
 use Rattle.machine.proofs.Evaluating.{Valued, valued_at_hand, valued_as, ready_valued, ready_on, ternary_evals, ternary_short, ternary_short_second, ternary_short_third, binary_evals, binary_short, binary_short_right}
 
-evaluated : {b s r : List ℕ} {i : ℕ} {w o : List ℕ} {p : Bool} {w' o' : List ℕ} → not p ≡ false → Evaluates b s r i w o p w' o' → Evaluates b s r i w o true w' o'
-evaluated {b} {s} {r} {i} {w} {o} {p} {w'} {o'} e ev = subst (λ (q : Bool). Evaluates b s r i w o q w' o') (not-false p e) ev
+evaluated : {b s r : List ℕ} {i : ℕ} {w o : List ℕ} {p : Bool} {w' o' : List ℕ} → p ≡ true → Evaluates b s r i w o p w' o' → Evaluates b s r i w o true w' o'
+evaluated {b} {s} {r} {i} {w} {o} {p} {w'} {o'} e ev = subst (λ (q : Bool). Evaluates b s r i w o q w' o') e ev
 
 -- ---- the operands of a Ternary
 
@@ -67,7 +66,7 @@ module _ {b s r : List ℕ} {n : ℕ} {w₀ o₀ : List ℕ} where
   trio_on (all_operands ea eb ec) ne ev = absurd (omega (arith, ne))
 
   trio_short : {k i : ℕ} {x y : Val} {w o : List ℕ} {p : Bool} {w' o' : List ℕ} → Trio b s r n w₀ o₀ k i x y w o → k < 3 → kind_of b n ≡ 11
-      → Evaluates b s r i w o p w' o' → not p ≡ true → Evaluates b s r n w₀ o₀ false w' o'
+      → Evaluates b s r i w o p w' o' → p ≡ false → Evaluates b s r n w₀ o₀ false w' o'
   trio_short no_operand ne e ev ep = ternary_short e ev ep
   trio_short (one_operand ea) ne e ev ep = ternary_short_second e ea refl refl ev ep
   trio_short (two_operands ea eb) ne e ev ep = ternary_short_third e ea refl refl eb refl refl ev ep
@@ -92,11 +91,11 @@ module _ {b s r : List ℕ} {n : ℕ} {w₀ o₀ : List ℕ} {k i : ℕ} {x y : 
     ternary_falls e = trio_falls z.trio ne e z.fine
 
     module _ {p : Bool} {w' o' : List ℕ} (ev : Evaluates b s r i w o p w' o') where
-      pub ternary_stopped : not p ≡ true → Evaluates b s r n w₀ o₀ false w' o'
+      pub ternary_stopped : p ≡ false → Evaluates b s r n w₀ o₀ false w' o'
       ternary_stopped ep = trio_short z.trio ne z.kind ev ep
 
       -- the operand at node i is evaluated, and the value before it, v, is kept
-      pub ternary_next : {v : Val} {m : ℕ} → v ≡ value_at (registers_part w) 0 → not p ≡ false → m ≡ next b i → TernarySoFar b s r n w₀ o₀ (k + 1) m y v w' o'
+      pub ternary_next : {v : Val} {m : ℕ} → v ≡ value_at (registers_part w) 0 → p ≡ true → m ≡ next b i → TernarySoFar b s r n w₀ o₀ (k + 1) m y v w' o'
       ternary_next {v} {m} e ep em = record {
         kind = z.kind;
         fine = z.fine;
@@ -133,7 +132,7 @@ module _ {b s r : List ℕ} {n : ℕ} {w₀ o₀ : List ℕ} where
   duo_falls (past_both ea eb) ne e f = absurd (omega (arith, ne))
 
   duo_short : {k i : ℕ} {x y : Val} {w o : List ℕ} {p : Bool} {w' o' : List ℕ} → Duo b s r n w₀ o₀ k i x y w o → k < 2 → kind_of b n ≡ 12
-      → Evaluates b s r i w o p w' o' → not p ≡ true → Evaluates b s r n w₀ o₀ false w' o'
+      → Evaluates b s r i w o p w' o' → p ≡ false → Evaluates b s r n w₀ o₀ false w' o'
   duo_short at_left ne e ev ep = binary_short e ev ep
   duo_short (at_right ea) ne e ev ep = binary_short_right e ea ev ep
   duo_short (past_both ea eb) ne e ev ep = absurd (omega (arith, ne))
@@ -161,7 +160,7 @@ module _ {b s r : List ℕ} {n : ℕ} {w₀ o₀ : List ℕ} {k i : ℕ} {x y : 
     pub binary_falls : {t : ℕ} → left b n 0 ≡ t → left b i 3 < t
     binary_falls e = duo_falls z.duo ne e z.fine
 
-    pub binary_stopped : {p : Bool} {w' o' : List ℕ} → Evaluates b s r i w o p w' o' → not p ≡ true → Evaluates b s r n w₀ o₀ false w' o'
+    pub binary_stopped : {p : Bool} {w' o' : List ℕ} → Evaluates b s r i w o p w' o' → p ≡ false → Evaluates b s r n w₀ o₀ false w' o'
     binary_stopped ev ep = duo_short z.duo ne z.kind ev ep
 
     -- the operand at node i is evaluated; m is where the right one is
@@ -182,6 +181,6 @@ module _ {b s r : List ℕ} {i : ℕ} {w o : List ℕ} {x : Val} {w' o' : List �
   pub operand_at_hand : {slot : Option Val} {v : Val} → AtHand b i w slot → slot ≡ Some v → x ≡ v → w' ≡ w → o' ≡ o → Valued b s r i w o x w' o'
   operand_at_hand a e ex ew eo = renamed ex ew eo (valued_at_hand a e)
 
-  pub operand_evaluated : {p : Bool} {v : Val} {w₂ o₂ : List ℕ} → Evaluates b s r i w o p w₂ o₂ → not p ≡ false → v ≡ value_at (registers_part w₂) 0 → x ≡ v → w' ≡ w₂ → o' ≡ o₂
+  pub operand_evaluated : {p : Bool} {v : Val} {w₂ o₂ : List ℕ} → Evaluates b s r i w o p w₂ o₂ → p ≡ true → v ≡ value_at (registers_part w₂) 0 → x ≡ v → w' ≡ w₂ → o' ≡ o₂
       → Valued b s r i w o x w' o'
   operand_evaluated ev ep e ex ew eo = renamed ex ew eo (valued_as ev ep e)

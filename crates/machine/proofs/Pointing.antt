@@ -115,10 +115,10 @@ module _ {b s r : List ℕ} {n : ℕ} {w₀ o₀ : List ℕ} {p : Target} {q : B
       let under : Evaluates b s r (under_if (pointee_in b w₀ n) n) w₀ o₀ q w o = subst (λ (j : ℕ). Evaluates b s r j w₀ o₀ q w o) tg.node ev in
       told (ap (λ (y : Ty). end_by {A = Val × Ty} q (result_in w, y) (short_in w)) tg.type) (pointer_on (result_in w) (short_in w) q (λ k. cast_type k f) h under.goes)
 
-  pub pointed_on : {t : Tree} → not q ≡ false → Stands b n t → Goes (given b s r) (λ x. pointer x.env (look x.env t)) w₀ o₀ (ended (result_in w, p.ty)) w o
+  pub pointed_on : {t : Tree} → q ≡ true → Stands b n t → Goes (given b s r) (λ x. pointer x.env (look x.env t)) w₀ o₀ (ended (result_in w, p.ty)) w o
   pointed_on e h = gave_on q (result_in w, p.ty) (short_in w) e (points h)
 
-  pub unpointed_on : {t : Tree} → not q ≡ true → Stands b n t → Goes (given b s r) (λ x. pointer x.env (look x.env t)) w₀ o₀ (short (short_of (short_in w))) w o
+  pub unpointed_on : {t : Tree} → q ≡ false → Stands b n t → Goes (given b s r) (λ x. pointer x.env (look x.env t)) w₀ o₀ (short (short_of (short_in w))) w o
   unpointed_on e h = fell_on q (result_in w, p.ty) (short_in w) e (points h)
 
 -- ---- Deref
@@ -130,11 +130,11 @@ through_unknown : (a : Val) (t : Ty) → a.known ≡ false → (x : Scene) → l
 through_unknown a t e x = rw e
 
 module _ {b s r : List ℕ} {n : ℕ} {w₀ o₀ : List ℕ} {p : Target} {q : Bool} {w₁ o₁ : List ℕ} (k : kind_of b n ≡ 9) (f : Fine b n) (tg : Targets b w₀ (n + 1) p) (ev : Evaluates b s r p.node w₀ o₀ q w₁ o₁) where
-  pub deref_ready : ReadyIn (given b s r) w₀ → not q ≡ false → ReadyIn (given b s r) w₁
+  pub deref_ready : ReadyIn (given b s r) w₀ → q ≡ true → ReadyIn (given b s r) w₁
   deref_ready z e = ready_on ev z e (target_fine tg (deref_kid k f))
 
   -- through the value v that is read from the registers: what a load through it does, is the whole
-  through : {v : Val} {u : Bool} {w o : List ℕ} → not q ≡ false → v ≡ value_at (registers_part w₁) 0 → Goes (given b s r) (λ x. load_through x.env (v, p.ty)) w₁ o₁ (end_in u w) w o
+  through : {v : Val} {u : Bool} {w o : List ℕ} → q ≡ true → v ≡ value_at (registers_part w₁) 0 → Goes (given b s r) (λ x. load_through x.env (v, p.ty)) w₁ o₁ (end_in u w) w o
       → Evaluates b s r n w₀ o₀ u w o
   unfolding eval_as look kid
   through {v} {u} {w} {o} e is l = by 9 k (λ ts h. go ts h)
@@ -142,15 +142,15 @@ module _ {b s r : List ℕ} {n : ℕ} {w₀ o₀ : List ℕ} {p : Target} {q : B
       go : (ts : Trees) → Shape b 9 n ts → Goes (given b s r) (λ x. act_as b x 9 n ts) w₀ o₀ (end_in u w) w o
       go ts (a_deref h _) = goes (λ x. load_through x.env) (told (ap (λ (a : Val). ended (a, p.ty)) (sym (result_is w₁ is))) (pointed_on (deref_kid k f) tg ev e h)) l
 
-  pub deref_nowhere : {v : Val} {u : Bool} {w : List ℕ} → not q ≡ false → v ≡ value_at (registers_part w₁) 0 → not v.known ≡ true
+  pub deref_nowhere : {v : Val} {u : Bool} {w : List ℕ} → q ≡ true → v ≡ value_at (registers_part w₁) 0 → not v.known ≡ true
       → Gives w₁ (unknown_val (type p.ty.bits p.ty.signed)) u w → Evaluates b s r n w₀ o₀ u w o₁
   deref_nowhere {v} e is z g = through e is (acts (λ _ x _. through_unknown v p.ty (not-true v.known z) x) (gives_goes g))
 
-  pub deref_loads : {v : Val} {u : Bool} {w o : List ℕ} → not q ≡ false → v ≡ value_at (registers_part w₁) 0 → not v.known ≡ false → LoadsAt r v.number p.ty w₁ o₁ u w o
+  pub deref_loads : {v : Val} {u : Bool} {w o : List ℕ} → q ≡ true → v ≡ value_at (registers_part w₁) 0 → not v.known ≡ false → LoadsAt r v.number p.ty w₁ o₁ u w o
       → Evaluates b s r n w₀ o₀ u w o
   deref_loads {v} e is z l = through e is (acts (λ _ x _. through_known v p.ty (not-false v.known z) x) (l.goes b s))
 
-  pub deref_short : not q ≡ true → Evaluates b s r n w₀ o₀ false w₁ o₁
+  pub deref_short : q ≡ false → Evaluates b s r n w₀ o₀ false w₁ o₁
   unfolding eval_as look kid
   deref_short e = by 9 k (λ ts h. go ts h)
     where

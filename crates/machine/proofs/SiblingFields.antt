@@ -1,6 +1,6 @@
 -- How far a loop over fields side by side has come: what is still to be done gives the whole. Assumes nothing.
 use mathlib.Core.Path.{◌≡◌}
-use mathlib.Core.Bool.{Bool, true, false, not}
+use mathlib.Core.Bool.{Bool, true, false}
 use mathlib.Core.List.{List}
 use Prim.Native.Nat.{ℕ, ◌+◌, ◌≤◌}
 use native.Mathlib.Nat.{le_refl}
@@ -40,14 +40,14 @@ module _ {b s r : List ℕ} {n e address : ℕ} {w₀ o₀ : List ℕ} {i : ℕ}
 
   module _ (ne : i ≡ e → ⊥) where
     module _ {q : Bool} {w₁ o₁ : List ℕ} (ev : Evaluates b s r (i + 1) w o q w₁ o₁) where
-      pub fields_stopped : not q ≡ true → StoresFields b s r n e address w₀ o₀ false w₁ o₁
+      pub fields_stopped : q ≡ false → StoresFields b s r n e address w₀ o₀ false w₁ o₁
       fields_stopped eq = so.rest (fields_short ne ev eq)
 
-      module _ {w₂ : List ℕ} (eq : not q ≡ false) (u : Bool) (st : Works (store_field address (value_of b i) (type_at (tables w₁) (ref_of b i)) (result_in w₁)) w₁ (unit_in u w₂) w₂) where
-        pub field_stopped : not u ≡ true → StoresFields b s r n e address w₀ o₀ false w₂ o₁
+      module _ {w₂ : List ℕ} (eq : q ≡ true) (u : Bool) (st : Works (store_field address (value_of b i) (type_at (tables w₁) (ref_of b i)) (result_in w₁)) w₁ (unit_in u w₂) w₂) where
+        pub field_stopped : u ≡ false → StoresFields b s r n e address w₀ o₀ false w₂ o₁
         field_stopped eu = so.rest (field_short ne ev eq u st eu)
 
-        pub fields_next : {m : ℕ} → not u ≡ false → m ≡ next b i → FieldsSoFar b s r n e address w₀ o₀ m w₂ o₁
+        pub fields_next : {m : ℕ} → u ≡ true → m ≡ next b i → FieldsSoFar b s r n e address w₀ o₀ m w₂ o₁
         fields_next eu em = record {
           past = let z = field_inside ne so.fine in omega (arith, so.past, em, z.some);
           ready = works_ready u (ready_on ev so.ready eq (field_kid ne so.fine)) st eu;

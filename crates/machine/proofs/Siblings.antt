@@ -1,7 +1,7 @@
 -- How far a loop over trees side by side has come: what is still to be done gives the whole. Assumes nothing.
-use Rattle.std.specs.Prelude.{Option, Some}
+use Rattle.std.specs.Prelude.{Option, None, Some, is_some}
 use mathlib.Core.Path.{◌≡◌, refl}
-use mathlib.Core.Bool.{Bool, true, false, not}
+use mathlib.Core.Bool.{Bool, true, false}
 use mathlib.Core.List.{List}
 use Prim.Native.Nat.{ℕ, ◌≤◌}
 use native.Mathlib.Nat.{le_refl}
@@ -47,12 +47,13 @@ module _ {b s r : List ℕ} {n e : ℕ} {w₀ o₀ : List ℕ} {i : ℕ} {w o : 
     }
 
     -- a tree whose value is at hand, and one that is evaluated
-    pub kids_skipped : {slot : Option Val} {v : Val} {m : ℕ} → AtHand b i w slot → slot ≡ Some v → m ≡ next b i → KidsSoFar b s r n e w₀ o₀ m w o
-    kids_skipped a h em = kids_on (valued_at_hand a h) em
+    pub kids_skipped : (slot : Option Val) {m : ℕ} → AtHand b i w slot → is_some slot ≡ true → m ≡ next b i → KidsSoFar b s r n e w₀ o₀ m w o
+    kids_skipped None a h em = cc
+    kids_skipped (Some v) a h em = kids_on (valued_at_hand a refl) em
 
     module _ {p : Bool} {w₁ o₁ : List ℕ} (ev : Evaluates b s r i w o p w₁ o₁) where
-      pub kids_next : {m : ℕ} → not p ≡ false → m ≡ next b i → KidsSoFar b s r n e w₀ o₀ m w₁ o₁
+      pub kids_next : {m : ℕ} → p ≡ true → m ≡ next b i → KidsSoFar b s r n e w₀ o₀ m w₁ o₁
       kids_next ep em = kids_on (valued_as ev ep refl) em
 
-      pub kids_stopped : not p ≡ true → EvaluatesKids b s r n e w₀ o₀ false w₁ o₁
+      pub kids_stopped : p ≡ false → EvaluatesKids b s r n e w₀ o₀ false w₁ o₁
       kids_stopped ep = z.rest (kids_short ne ev ep)

@@ -1,6 +1,6 @@
 -- What assigning a struct is, from what the code did for it: the base, then each field. Assumes nothing.
 use mathlib.Core.Path.{◌≡◌, refl, sym, ap, ◌∙◌, subst}
-use mathlib.Core.Bool.{Bool, true, false, not}
+use mathlib.Core.Bool.{Bool, true, false}
 use mathlib.Core.List.{List, []}
 use Prim.Native.Nat.{ℕ, ◌+◌, ◌<◌}
 use native.Mathlib.Omega.{arith}
@@ -118,14 +118,14 @@ odd_struct {b} {s} {r} {l} {m} {w₀} {o₀} {k} {d} {w} p ne e = record { goes 
     go _ u (stands {ts = ts} i h) = acts (λ _ x _. struct_odd x.env _ _ (ne_eqb _ _ (λ z. ne (p ∙ z)))) (short_goes (told_in w) e refl)
 
 module _ {b s r : List ℕ} {l m : ℕ} {w₀ o₀ : List ℕ} {k : ℕ} {j : ℕ} {q : Bool} {w₁ o₁ : List ℕ} (p : k ≡ kind_of b l) (k9 : k ≡ 9) (ej : j ≡ base_at b (l + 1)) (ev : Evaluates b s r j w₀ o₀ q w₁ o₁) where
-  pub struct_assigns : {d : Bool} {w o : List ℕ} → not q ≡ false → StoresStruct b s r j m (result_in w₁) w₁ o₁ d w o → AssignsStruct b s r l m w₀ o₀ d w o
+  pub struct_assigns : {d : Bool} {w o : List ℕ} → q ≡ true → StoresStruct b s r j m (result_in w₁) w₁ o₁ d w o → AssignsStruct b s r l m w₀ o₀ d w o
   struct_assigns {d} {w} {o} eq e = record {
     goes = λ t u h i. through (λ x. kids (look x.env u)) (sym p ∙ k9) h
         (λ c z. goes (λ x. store_struct x.env (base_at b (l + 1)) (kids (look x.env u))) (ended_on (evaluates_at ej ev) eq z)
         ((subst (λ (i : ℕ). StoresStruct b s r i m (result_in w₁) w₁ o₁ d w o) ej e).goes u i));
   }
 
-  pub struct_fails : not q ≡ true → AssignsStruct b s r l m w₀ o₀ false w₁ o₁
+  pub struct_fails : q ≡ false → AssignsStruct b s r l m w₀ o₀ false w₁ o₁
   struct_fails eq = record {
     goes = λ t u h i. through (λ x. kids (look x.env u)) (sym p ∙ k9) h
         (λ c z. halts (λ x. store_struct x.env (base_at b (l + 1)) (kids (look x.env u))) _ (short_on (evaluates_at ej ev) eq z));
@@ -168,11 +168,11 @@ module _ {b s r : List ℕ} {n m e : ℕ} {v : Val} {w₀ o₀ : List ℕ} {q : 
       go : (u : Tree) → Stands b m u → Goes (given b s r) (λ x. store_struct x.env n (kids (look x.env u)) v) w₀ o₀ (told_end d w) w o
       go _ (stands {ts = us} i h) = from (subst (λ (j : ℕ). Shape b j m us) k h)
 
-  pub known_stores : {d : Bool} {w : List ℕ} → not q ≡ false → Builds b (m + 1) e v.number w₁ d w → StoresStruct b s r n m (result_in w₀) w₀ o₀ d w o
+  pub known_stores : {d : Bool} {w : List ℕ} → q ≡ true → Builds b (m + 1) e v.number w₁ d w → StoresStruct b s r n m (result_in w₀) w₀ o₀ d w o
   known_stores eq g = stored (λ us z. goes (λ x _. done (did (fields_written v.number (count (looks x.env us))))) (gave_on q tt (short_in w₁) eq (ef.goes us z))
       (acts (λ _ x _. ap (λ (j : ℕ). done (did (fields_written v.number j))) (count_size x.env us)) (tells_goes (g.tells us z))))
 
-  pub known_fails : not q ≡ true → StoresStruct b s r n m (result_in w₀) w₀ o₀ false w₁ o
+  pub known_fails : q ≡ false → StoresStruct b s r n m (result_in w₀) w₀ o₀ false w₁ o
   known_fails eq = stored (λ us z. halts (λ x _. done (did (fields_written v.number (count (looks x.env us))))) _ (fell_on q tt (short_in w₁) eq (ef.goes us z)))
 
 -- ---- its fields
@@ -189,21 +189,21 @@ pub fields_end : {b s r : List ℕ} {n e address : ℕ} {w o : List ℕ} → n �
 fields_end {address = address} e = record { goes = λ ts h. fields_none address h e }
 
 -- what is ready after a store
-stored_goes : (g : How → Given) (o : List ℕ) {m : Act (Unit {0})} {w₀ w : List ℕ} (u : Bool) → Works m w₀ (unit_in u w) w → not u ≡ false → Goes g (λ x. m) w₀ o (ended tt) w o
+stored_goes : (g : How → Given) (o : List ℕ) {m : Act (Unit {0})} {w₀ w : List ℕ} (u : Bool) → Works m w₀ (unit_in u w) w → u ≡ true → Goes g (λ x. m) w₀ o (ended tt) w o
 stored_goes g o {w = w} u e eu = gave_on u tt (short_in w) eu (e.goes g o)
 
-pub works_ready : {g : How → Given} {m : Act (Unit {0})} {w₀ w : List ℕ} (u : Bool) → ReadyIn g w₀ → Works m w₀ (unit_in u w) w → not u ≡ false → ReadyIn g w
+pub works_ready : {g : How → Given} {m : Act (Unit {0})} {w₀ w : List ℕ} (u : Bool) → ReadyIn g w₀ → Works m w₀ (unit_in u w) w → u ≡ true → ReadyIn g w
 works_ready {g} u ready e eu = ready_after (stored_goes g [] u e eu) ready
 
 module _ {b s r : List ℕ} {w₀ o₀ : List ℕ} {q : Bool} {w₁ o₁ : List ℕ} (address : ℕ) where
-  fields_stop : {n e : ℕ} {ts : Trees} → FieldsAt b n e ts → (n ≡ e → ⊥) → Evaluates b s r (n + 1) w₀ o₀ q w₁ o₁ → not q ≡ true
+  fields_stop : {n e : ℕ} {ts : Trees} → FieldsAt b n e ts → (n ≡ e → ⊥) → Evaluates b s r (n + 1) w₀ o₀ q w₁ o₁ → q ≡ false
       → Goes (given b s r) (λ x. fields_act x address ts) w₀ o₀ (short (short_of (short_in w₁))) w₁ o₁
   unfolding look store_fields kid
   fields_stop no_field ne ev eq = absurd (ne refl)
   fields_stop (a_field lt i k l h z f) ne ev eq = halts _ _ (short_on ev eq h)
 
   -- the first is stored with the type that the tables tell, and then the others
-  fields_first : {n e : ℕ} {ts : Trees} {z : Ending (Unit {0})} {w o : List ℕ} → FieldsAt b n e ts → (n ≡ e → ⊥) → Evaluates b s r (n + 1) w₀ o₀ q w₁ o₁ → not q ≡ false
+  fields_first : {n e : ℕ} {ts : Trees} {z : Ending (Unit {0})} {w o : List ℕ} → FieldsAt b n e ts → (n ≡ e → ⊥) → Evaluates b s r (n + 1) w₀ o₀ q w₁ o₁ → q ≡ true
       → ((us : Trees) → FieldsAt b (next b n) e us
       → Goes (given b s r) (λ x. store_field address (value_of b n) (type_at (tables w₁) (ref_of b n)) (result_in w₁) >> fields_act x address us) w₁ o₁ z w o)
       → Goes (given b s r) (λ x. fields_act x address ts) w₀ o₀ z w o
@@ -213,14 +213,14 @@ module _ {b s r : List ℕ} {w₀ o₀ : List ℕ} {q : Bool} {w₁ o₁ : List 
       goes _ (ended_on ev eq h) (acts (λ _ x m. ap (λ (t : Ty). store_field address (value_of b n) t (result_in w₁) >> fields_act x address us) (sym (m.types (ref_of b n) l))) (f us fs))
 
 module _ {b s r : List ℕ} {n e address : ℕ} {w₀ o₀ : List ℕ} {q : Bool} {w₁ o₁ : List ℕ} (ne : n ≡ e → ⊥) (ev : Evaluates b s r (n + 1) w₀ o₀ q w₁ o₁) where
-  pub fields_short : not q ≡ true → StoresFields b s r n e address w₀ o₀ false w₁ o₁
+  pub fields_short : q ≡ false → StoresFields b s r n e address w₀ o₀ false w₁ o₁
   fields_short eq = record { goes = λ ts h. fields_stop address h ne ev eq }
 
-  module _ {w₂ : List ℕ} (eq : not q ≡ false) (u : Bool) (st : Works (store_field address (value_of b n) (type_at (tables w₁) (ref_of b n)) (result_in w₁)) w₁ (unit_in u w₂) w₂) where
-    pub field_short : not u ≡ true → StoresFields b s r n e address w₀ o₀ false w₂ o₁
+  module _ {w₂ : List ℕ} (eq : q ≡ true) (u : Bool) (st : Works (store_field address (value_of b n) (type_at (tables w₁) (ref_of b n)) (result_in w₁)) w₁ (unit_in u w₂) w₂) where
+    pub field_short : u ≡ false → StoresFields b s r n e address w₀ o₀ false w₂ o₁
     field_short eu = record { goes = λ ts h. fields_first address h ne ev eq (λ us fs. halts (λ x _. fields_act x address us) _ (fell_on u tt (short_in w₂) eu (st.goes (given b s r) o₁))) }
 
-    pub fields_store : {m : ℕ} {d : Bool} {w o : List ℕ} → not u ≡ false → m ≡ next b n → StoresFields b s r m e address w₂ o₁ d w o → StoresFields b s r n e address w₀ o₀ d w o
+    pub fields_store : {m : ℕ} {d : Bool} {w o : List ℕ} → u ≡ true → m ≡ next b n → StoresFields b s r m e address w₂ o₁ d w o → StoresFields b s r n e address w₀ o₀ d w o
     fields_store {d = d} {w = w} {o = o} eu em more = record {
       goes = λ ts h. fields_first address h ne ev eq
           (λ us fs. goes (λ x _. fields_act x address us) (stored_goes (given b s r) o₁ u st eu) ((subst (λ (j : ℕ). StoresFields b s r j e address w₂ o₁ d w o) em more).goes us fs));

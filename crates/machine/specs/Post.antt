@@ -6,6 +6,7 @@ use Rattle.definition.specs.Act.{Act, done, fail, unknown_address, fields_writte
 use Rattle.definition.specs.Term.{Terms, eval, evals, kids, count, nothing}
 use Rattle.definition.specs.Evaluate.{Env, Did, did, number_in, look, looks, execute, assign_struct, assign_val, store_fields}
 use Rattle.value.specs.Encoding.{value_size}
+use Rattle.hosting.specs.declared.Reads.{Reads}
 use Rattle.hosting.specs.declared.Short.{Short}
 use Rattle.hosting.specs.declared.Did as declared
 use Rattle.hosting.specs.Scene.{given}
@@ -16,6 +17,10 @@ use Rattle.operations.specs.Going.{ReadyIn, Goes}
 use Rattle.operations.specs.Taking.{ValuesIn}
 
 -- ---- in nodes b, with symbols s and regions r
+
+-- these being what an evaluation reads
+abbrev pub reading : {A : Type 1} → Reads → (List ℕ → List ℕ → List ℕ → A) → A
+reading x f = f x.nodes.now x.symbols.now x.regions.now
 
 -- the workspace is in order; and a reference to a slice does not tell what a slice does, that its length is a machine's number
 abbrev pub ReadyBy : List ℕ → List ℕ → List ℕ → List ℕ → Type 0

@@ -1,9 +1,9 @@
 -- What the turns of a load find. Assumes nothing.
-use Rattle.std.proofs.Common.{◌≡◌, ℕ, zero, suc, ◌+◌, ◌-◌, ◌*◌, ◌/◌, ◌%◌, ◌^◌, ◌<◌, ◌≤◌, List, [], ◌∷◌, drop, sym, refl, ap, ◌∙◌, mod-eq_of_lt, mul_comm, mul-le-mul_left, pow-suc, add-zero, add-one, arith, shl_exact}
+use Rattle.std.proofs.Common.{◌≡◌, ℕ, zero, suc, ◌+◌, ◌-◌, ◌*◌, ◌/◌, ◌%◌, ◌^◌, ◌<◌, ◌≤◌, List, [], ◌∷◌, drop, sym, refl, ap, ◌∙◌, mod-eq_of_lt, mul_comm, mul-le-mul_left, pow-suc, add-zero, add-one, arith, lit<, shl_exact}
 use Rattle.std.specs.Prelude.{Option, None, Some, Bool, false, true}
 use Rattle.std.specs.Option.{is_some, option_or}
 use mir.Val.{bool_byte}
-use native.Mathlib.Nat.{mod-one}
+use native.Mathlib.Nat.{mod-one, pow-le-pow_right, lt_of_lt_of_le}
 use lib.Pow.{mod-pow-add}
 use Rattle.layout.specs.Number.{le, num}
 use Rattle.memory.specs.Overlay.{Overlay, Cell, Ascending, to_byte, find, rank, byte_or, gather, load}
@@ -158,3 +158,8 @@ low_bytes zero v = sym (mod-one v)
 low_bytes (suc n) v =
     let e : 8 * suc n ≡ 8 * n + 8 = omega arith in
     rw e (omega (arith, low_bytes n (v / 256), mod-pow-add v (8 * n) 8))
+
+-- a word has no more than eight
+pub all_bytes : (n v : ℕ) → v < 2 ^ 64 → 8 ≤ n → v ≡ num (le n v)
+all_bytes n v h l =
+    sym (low_bytes n v ∙ mod-eq_of_lt (lt_of_lt_of_le h (pow-le-pow_right {n = 2} (lit< tt) {i = 64} {j = 8 * n} (omega arith))))

@@ -1,10 +1,13 @@
 -- Entries written one after the other, and their bytes replaced. Assumes nothing.
-use Rattle.std.proofs.Common.{◌≡◌, ℕ, zero, suc, ◌+◌, ◌-◌, ◌*◌, ◌/◌, ◌%◌, ◌<◌, ◌≤◌, List, [], ◌∷◌, length, take, drop, set, sym, refl, ap, ◌∙◌, mod-eq_of_lt, arith, length-drop, length-set, length-take-le, drop-set-lt}
+use Rattle.std.proofs.Common.{◌≡◌, ℕ, zero, suc, ◌+◌, ◌-◌, ◌*◌, ◌/◌, ◌%◌, ◌<◌, ◌≤◌, List, [], ◌∷◌, length, get_or, take, drop, set, sym, refl, ap, ◌∙◌, mod-eq_of_lt, arith, length-drop, length-set, length-take-le, drop-set-lt, drop-cons, drop_of_length-le}
+use Rattle.std.specs.Int.{to_le_bytes}
 use lib.Seq.{sets}
 use Rattle.layout.specs.Each.{Bytes}
 use Rattle.layout.specs.Number.{le, num, number_at, put_number}
 use Rattle.layout.specs.Format.{writes}
-use Rattle.layout.proofs.NumberLaws.{le_num}
+use native.Mathlib.Nat.{pow-zero, div-one}
+use mir.Syntax.{w64}
+use Rattle.layout.proofs.NumberLaws.{le_num, le_from, take_le}
 use Rattle.layout.proofs.StoreLaws.{each_take, each_drop, sets_append}
 use Rattle.memory.specs.Overlay.{run_of}
 use Rattle.memory.specs.Entries.{entry, entry_size, overwritten}
@@ -20,29 +23,37 @@ put_entry s t i a b l h =
     ap (λ (x : List ℕ). set x (i + 8) b) h ∙ ap (λ (x : ℕ). set (sets s i (le 8 a)) (i + 8) x) (sym e) ∙ sym (sets_append (le 8 a) (le 1 b) s i)
 
 -- a turn of the loop that writes a run
-pub run_turn : (p p' : List ℕ) (i k a n v : ℕ) → k < n → p' ≡ sets p ((i + k) * entry_size) (entry.write (a + k, v % 256))
-    → sets p' ((i + (k + 1)) * entry_size) (writes entry (run_of (a + (k + 1)) (le (n - (k + 1)) (v / 256)))) ≡ sets p ((i + k) * entry_size) (writes entry (run_of (a + k) (le (n - k) v)))
-run_turn p p' i k a n v h e =
-    let x : n - k ≡ suc (n - (k + 1)) = omega arith in
+pub run_turn : (p p' bs : List ℕ) (i k a b : ℕ) → k < length bs → b ≡ get_or bs k 0 → p' ≡ sets p ((i + k) * entry_size) (entry.write (a + k, b))
+    → sets p' ((i + (k + 1)) * entry_size) (writes entry (run_of (a + (k + 1)) (drop (k + 1) bs))) ≡ sets p ((i + k) * entry_size) (writes entry (run_of (a + k) (drop k bs)))
+run_turn p p' bs i k a b h g e =
+    let x : drop k bs ≡ b ∷ drop (suc k) bs = drop-cons bs k 0 h ∙ ap (λ (c : ℕ). c ∷ drop (suc k) bs) (sym g) in
+    let j : k + 1 ≡ suc k = omega arith in
     let y : a + (k + 1) ≡ suc (a + k) = omega arith in
-    let w : List ℕ = entry.write (a + k, v % 256) in
-    let vs : List ℕ = writes entry (run_of (suc (a + k)) (le (n - (k + 1)) (v / 256))) in
-    let z : (i + (k + 1)) * entry_size ≡ (i + k) * entry_size + length w = omega (arith, entry_sized.long (a + k, v % 256)) in
-    rw (e, x, y, z) (sym (sets_append w vs p ((i + k) * entry_size)))
+    let w : List ℕ = entry.write (a + k, b) in
+    let vs : List ℕ = writes entry (run_of (suc (a + k)) (drop (suc k) bs)) in
+    let z : (i + (k + 1)) * entry_size ≡ (i + k) * entry_size + length w = omega (arith, entry_sized.long (a + k, b)) in
+    rw (e, y, z, j, x) (sym (sets_append w vs p ((i + k) * entry_size)))
+
+pub run_none : (p bs : List ℕ) (i j a : ℕ) → length bs ≤ j → p ≡ sets p i (writes entry (run_of a (drop j bs)))
+run_none p bs i j a h = ap (λ (cs : List ℕ). sets p i (writes entry (run_of a cs))) (sym (drop_of_length-le bs h))
 
 -- ---- bytes replaced
 
-pub over_turn : (s : List ℕ) (i k n v : ℕ) → k < n → overwritten (set s ((i + k) * entry_size + 8) (v % 256)) (i + (k + 1)) (le (n - (k + 1)) (v / 256)) ≡ overwritten s (i + k) (le (n - k) v)
-unfolding overwritten
-over_turn s i k n v h =
-    let x : n - k ≡ suc (n - (k + 1)) = omega arith in
-    let y : i + (k + 1) ≡ suc (i + k) = omega arith in
-    rw (x, y)
+-- the low bytes of a number, of those that a word has
+pub low_bytes : (n v : ℕ) → n ≤ 8 → take n (to_le_bytes w64 v) ≡ le n v
+low_bytes n v h = ap (take n) (le_from 8 0 v ∙ ap (le 8) (rw (pow-zero, div-one))) ∙ take_le n 8 v h
 
-pub over_none : (s : List ℕ) (i n v : ℕ) → n ≡ 0 → s ≡ overwritten s i (le n v)
+pub over_turn : (s bs : List ℕ) (i k b : ℕ) → k < length bs → b ≡ get_or bs k 0 → overwritten (set s ((i + k) * entry_size + 8) b) (i + (k + 1)) (drop (k + 1) bs) ≡ overwritten s (i + k) (drop k bs)
 unfolding overwritten
-over_none s i zero v h = refl
-over_none s i (suc n) v h = absurd (omega arith)
+over_turn s bs i k b h g =
+    let x : drop k bs ≡ get_or bs k 0 ∷ drop (suc k) bs = drop-cons bs k 0 h in
+    let y : i + (k + 1) ≡ suc (i + k) = omega arith in
+    let j : k + 1 ≡ suc k = omega arith in
+    rw (g, x, y, j)
+
+pub over_none : (s bs : List ℕ) (i k : ℕ) → length bs ≤ k → s ≡ overwritten s i (drop k bs)
+unfolding overwritten
+over_none s bs i k h = ap (overwritten s i) (sym (drop_of_length-le bs h))
 
 each_set : (s : List ℕ) (i b : ℕ) → b < 256 → Bytes s → Bytes (set s i b)
 each_set [] i b h all = tt

@@ -1,5 +1,8 @@
 // The bytes that a run has written: entries of an address and a byte, ascending by address, in a lent part of the workspace.
 // A count of the entries stands beside the part: this is a fixed place with room for more of them on both sides, so that its length does not tell.
+// Each function asks that they are sorted. A struct of both with that fact was tried. As a field, the fact has to hold at each write through the reference, and
+// it does not while entries move; by value, no proof is made where one function hands the struct to another; as a model, callers learn nothing of their bytes
+// at the end, and its clauses are a tenth longer.
 #![tactic(auto)]
 
 ghost use Rattle.std.specs.Prelude.{◌≡◌, ◌+◌, ◌-◌, ◌*◌, ◌^◌, ◌<◌, ◌≤◌, ◌++◌, length, take, drop};
@@ -46,10 +49,7 @@ impl Image {
     fn first(self) -> Option<u8>
         ensures { result ≡ byte_or None (le self.count self.number) }
     {
-        if self.count == 0 {
-            return None;
-        }
-        Some((self.number % 256) as u8)
+        (self.count != 0).then_some((self.number % 256) as u8)
     }
 
     // The answer without its first byte.
@@ -83,7 +83,7 @@ struct Run {
     ghost no_wrap: { address + bytes ≤ 2 ^ 64 },
 }
 
-// The place of the first entry.
+// The place of the first entry; where there is none, the front.
 #[tactic(auto, using(crate::proofs::PartLaws::first_none, crate::proofs::PartLaws::first_some))]
 fn first_of(part: &[u8], count: usize) -> usize
     requires { Sorted part.now count }
@@ -100,7 +100,7 @@ pub fn find(part: &[u8], count: usize, address: u64) -> Option<u8>
     requires { Sorted part.now count }
     ensures { result ≡ to_byte (find_in address (entries part.now count)) }
 {
-    Row::new(part, count, first_of(part, count)).find(address)
+    Row::new(part, count).find(address)
 }
 
 // The number of the bytes from an address on, the overlay's or else the image's, if each is there; addresses wrap.
@@ -115,11 +115,11 @@ pub fn load_number(
     requires bytes_bound { bytes ≤ 8 }
     ensures { result ≡ load (entries part.now count) (le image.count image.number) address bytes }
 {
-    Row::new(part, count, first_of(part, count)).load(image, address, bytes)
+    Row::new(part, count).load(image, address, bytes)
 }
 
-// The first n bytes go up by so many entries: n is no length, since there is room behind them for where they go, and maybe more. (Of this loop the compiler makes a memmove, since the distance is a constant; of the library's copy_within it
-// makes none, and moves take two thirds longer.)
+// The first n bytes go up by so many entries: n is no length, since there is room behind them for where they go, and maybe more. (Of this loop the compiler
+// makes a memmove, since the distance is a constant; of the library's copy_within it makes none, and moves take two thirds longer.)
 fn up<const PLACES: usize>(part: &mut [u8], n: usize)
     requires { n + PLACES * entry_size ≤ length part.old }
     ensures { part.new ≡ sets part.old (PLACES * entry_size) (take n part.old) }
@@ -140,6 +140,7 @@ fn down<const PLACES: usize>(part: &mut [u8], n: usize)
 }
 
 // Entries go from one place to another, mostly by one, two, four or eight places.
+#[tactic(auto, using(crate::proofs::PieceLaws::slid, crate::proofs::PieceLaws::slid_nowhere))]
 fn slide(part: &mut [u8], m: Move)
     requires { ((m.from + m.count) * entry_size ≤ length part.old) × ((m.to + m.count) * entry_size ≤ length part.old) }
     ensures { part.new ≡ sets part.old (m.to * entry_size) (piece part.old m.from m.count) }
@@ -211,23 +212,36 @@ fn put_run(part: &mut [u8], i: usize, run: Run)
     requires { (i + run.bytes) * entry_size ≤ length part.old }
     ensures { part.new ≡ sets part.old (i * entry_size) (writes entry (run_of run.address (le run.bytes run.number))) }
 {
-    let mut left = run.number;
-    for k in 0..run.bytes {
-        put_entry(part, i + k, run.address + k as u64, (left % 256) as u8);
-        left = left / 256;
+    let bytes = run.number.to_le_bytes();
+    for (k, byte) in bytes[..run.bytes].iter().enumerate() {
+        put_entry(part, i + k, run.address + k as u64, *byte);
     }
 }
 
-// The bytes of a run in place of the entries that have its addresses.
-fn splice(part: &mut [u8], count: usize, span: Span, run: Run)
-    requires sorted { Sorted part.old count }
-    requires spliced { Spliced (entries part.old count) count span run.address run.bytes }
-    ensures { Holds (stores run.address (le run.bytes run.number) (entries part.old count)) part.new (span.at + run.bytes + (count - span.end)) }
+// The bytes of a run in the entries from a place on, whose addresses stay.
+fn overwrite(part: &mut [u8], i: usize, run: Run)
+    requires { (i + run.bytes) * entry_size ≤ length part.old }
+    ensures { part.new ≡ overwritten part.old i (le run.bytes run.number) }
+{
+    let bytes = run.number.to_le_bytes();
+    for (k, byte) in bytes[..run.bytes].iter().enumerate() {
+        part[(i + k) * ENTRY + 8] = *byte;
+    }
+}
+
+// The bytes of a run in place of the entries that have its addresses, if there is room.
+fn insert(part: &mut [u8], count: usize, span: Span, run: Run) -> Result<usize, Full>
+    requires { Sorted part.old count × Spans (entries part.old count) count span run.address run.bytes }
+    ensures { Stores (stores run.address (le run.bytes run.number) (entries part.old count)) part.old part.new result }
 {
     let at = span.at;
     let end = span.end;
+    let next = at + run.bytes + (count - end);
+    if LIMIT < next {
+        return Err(Full);
+    }
     let first = first_of(part, count);
-    let to = place(first, count, at, end, at + run.bytes + (count - end));
+    let to = place(first, count, at, end, next);
     let left = Move {
         from: first,
         to: to,
@@ -241,30 +255,6 @@ fn splice(part: &mut [u8], count: usize, span: Span, run: Run)
     slide_both(part, left, right);
     put_run(part, to + at, run);
     layout::put::<2>(part, FIRST, to as u64);
-}
-
-// The low bytes of a number in the entries from a place on, whose addresses stay.
-fn overwrite(part: &mut [u8], i: usize, number: u64, bytes: usize)
-    requires { (i + bytes) * entry_size ≤ length part.old }
-    ensures { part.new ≡ overwritten part.old i (le bytes number) }
-{
-    let mut left = number;
-    for k in 0..bytes {
-        part[(i + k) * ENTRY + 8] = (left % 256) as u8;
-        left = left / 256;
-    }
-}
-
-// The bytes of a run, whose entries are known, if there is room.
-fn insert(part: &mut [u8], count: usize, span: Span, run: Run) -> Result<usize, Full>
-    requires { Sorted part.old count × Spans (entries part.old count) count span run.address run.bytes }
-    ensures { Stores (stores run.address (le run.bytes run.number) (entries part.old count)) part.old part.new result }
-{
-    let next = span.at + run.bytes + (count - span.end);
-    if LIMIT < next {
-        return Err(Full);
-    }
-    splice(part, count, span, run);
     Ok(next)
 }
 
@@ -286,17 +276,13 @@ fn add(part: &mut [u8], count: usize, first: usize, span: Span, run: Run) -> Res
     requires first_told { first ≡ first_in part.old count }
     ensures { Stores (stores run.address (le run.bytes run.number) (entries part.old count)) part.old part.new result }
 {
-    if span.at == count {
-        if first + count + run.bytes <= LIMIT {
-            put_beside(part, count, span, first, run);
-            return Ok(count + run.bytes);
-        }
+    if span.at == count && first + count + run.bytes <= LIMIT {
+        put_beside(part, count, span, first, run);
+        return Ok(count + run.bytes);
     }
-    if span.end == 0 {
-        if run.bytes <= first {
-            put_beside(part, count, span, first - run.bytes, run);
-            return Ok(count + run.bytes);
-        }
+    if span.end == 0 && run.bytes <= first {
+        put_beside(part, count, span, first - run.bytes, run);
+        return Ok(count + run.bytes);
     }
     insert(part, count, span, run)
 }
@@ -308,15 +294,16 @@ fn store_run(part: &mut [u8], count: usize, run: Run) -> Result<usize, Full>
     ensures { Stores (stores run.address (le run.bytes run.number) (entries part.old count)) part.old part.new result }
 {
     let first = first_of(part, count);
-    let span = Row::new(part, count, first).span_of(run.address, run.bytes);
+    let span = Row::new(part, count).span_of(run.address, run.bytes);
     if span.end - span.at == run.bytes {
-        overwrite(part, first + span.at, run.number, run.bytes);
+        overwrite(part, first + span.at, run);
         return Ok(count);
     }
     add(part, count, first, span, run)
 }
 
 // A byte stored at an address.
+#[tactic(auto, using(crate::proofs::RunLaws::one_byte, crate::proofs::RunLaws::stores_as))]
 pub fn store(part: &mut [u8], count: usize, address: u64, byte: u8) -> Result<usize, Full>
     requires { Sorted part.old count }
     ensures { Stores (store_in address byte (entries part.old count)) part.old part.new result }
@@ -329,7 +316,7 @@ pub fn store(part: &mut [u8], count: usize, address: u64, byte: u8) -> Result<us
     store_run(part, count, run)
 }
 
-// The low bytes of a number stored one by one, as addresses wrap.
+// The low bytes of a number stored one by one, as addresses wrap. (Divided, and not of `to_le_bytes`: more bytes may be asked for than the eight it gives.)
 fn store_each(
     part: &mut [u8],
     count: usize,
@@ -360,17 +347,13 @@ pub fn store_number(
     requires { Sorted part.old count }
     ensures { StoresAll (stores address (le bytes number) (entries part.old count)) part.new result }
 {
-    if 0 < bytes {
-        if bytes <= 8 {
-            if address <= u64::MAX - (bytes as u64 - 1) {
-                let run = Run {
-                    address,
-                    number,
-                    bytes,
-                };
-                return store_run(part, count, run);
-            }
-        }
+    if 0 < bytes && bytes <= 8 && address <= u64::MAX - (bytes as u64 - 1) {
+        let run = Run {
+            address,
+            number,
+            bytes,
+        };
+        return store_run(part, count, run);
     }
     store_each(part, count, address, number, bytes)
 }

@@ -1,12 +1,12 @@
 // A row: entries one after the other from the front of a slice, ascending by address. What the addresses from one on have in it: one search, then a step for
-// each.
+// each. (A place in a row and a rank are of one search, whose clauses name them: no value outlives it. So are a span and its run.)
 ghost use Rattle.std.specs.Prelude.{◌≡◌, suc, ◌+◌, ◌*◌, ◌%◌, ◌^◌, ◌<◌, ◌≤◌, true, [], length};
 ghost use Rattle.layout.specs.Number.{le, num};
 ghost use Rattle.memory.specs.Overlay.{to_byte, find as find_in, rank, load as load_in};
-ghost use Rattle.memory.specs.Entries.{Sorted, entries, first as first_in};
+ghost use Rattle.memory.specs.Entries.{Sorted, entries};
 ghost use Rattle.memory.specs.Post.{IsOverlay, Parts, byte_in, Untouched, Spans};
 
-use super::{ENTRY, Image};
+use super::{ENTRY, Image, first_of};
 use std::marker::Model;
 
 // Which entries have the addresses of a store: from one up to another.
@@ -35,19 +35,19 @@ impl<'a> Model for Row<'a> {
 }
 
 impl<'a> Row<'a> {
-    // The entries of a part, the first of which is at a place that is known.
+    // The entries of a part.
     #[tactic(auto, using(crate::proofs::PartLaws::lent, crate::proofs::PartLaws::lent_row))]
-    pub fn new(part: &'a [u8], count: usize, first: usize) -> Row<'a>
-        requires sorted { Sorted part.now count }
-        requires first_told { first ≡ first_in part.now count }
+    pub fn new(part: &'a [u8], count: usize) -> Row<'a>
+        requires { Sorted part.now count }
         ensures { result ≡ entries part.now count }
     {
         Row {
-            bytes: &part[first * ENTRY..],
+            bytes: &part[first_of(part, count) * ENTRY..],
             count,
         }
     }
 
+    #[tactic(auto, using(crate::proofs::RowLaws::length_row))]
     pub fn len(&self) -> usize
         ensures len { result ≡ length self.now }
         ensures row { IsOverlay self.now }
@@ -75,6 +75,7 @@ impl<'a> Row<'a> {
     }
 
     // The entries of so many bytes from an address on.
+    #[tactic(auto, using(crate::proofs::OverlayLaws::rank_mono, crate::proofs::OverlayLaws::rank_most))]
     pub fn span_of(&self, address: u64, bytes: usize) -> Span
         requires { (0 < bytes) × (address + bytes ≤ 2 ^ 64) }
         ensures { Spans self.now (length self.now) result address bytes }
@@ -105,22 +106,19 @@ impl<'a> Row<'a> {
         self.find_at(address, self.lower(address))
     }
 
-    // Whether none of so many addresses from one on, whose rank is known, has an entry. The last addresses, which might wrap, are left to the loop.
+    // Whether none of so many addresses from one on, whose rank is known, has an entry. Where they might wrap, they are left to the loop.
     fn untouched(&self, address: u64, at: usize, bytes: usize) -> bool
-        requires bytes_bound { bytes ≤ 8 }
-        requires at_rank { at ≡ rank address self.now }
+        requires { at ≡ rank address self.now }
         ensures { result ≡ true → Untouched self.now address bytes }
     {
-        if u64::MAX - 8 < address {
+        let Some(end) = address.checked_add(bytes as u64) else {
             return false;
-        }
-        if at < self.len() {
-            return address + bytes as u64 <= self.address(at);
-        }
-        true
+        };
+        self.len() <= at || end <= self.address(at)
     }
 
-    // The number of the bytes from an address on, whose rank is known, one by one.
+    // The number of the bytes from an address on, whose rank is known, one by one. (That they are at most eight is asked from the workspace's load down to here,
+    // where they are joined: a type of such counts would be made in one place and taken apart in another, and its own clause say the same.)
     fn load_each(&self, image: Image, address: u64, at: usize, bytes: usize) -> Option<u64>
         requires bytes_bound { bytes ≤ 8 }
         requires at_rank { at ≡ rank address self.now }
@@ -155,7 +153,7 @@ impl<'a> Row<'a> {
     }
 }
 
-// The rank of the address after one, if the number past it has that rank: no entry comes before address 0.
+// The rank of the address after one, if the number past it has that rank: no entry comes before address 0. (`checked_add` would make a sum for nothing.)
 fn after(address: u64, at: usize) -> usize
     ensures { (address + 1 ≡ 2 ^ 64 → result ≡ 0) × (address + 1 < 2 ^ 64 → result ≡ at) }
 {
@@ -170,9 +168,9 @@ fn joined(number: u64, i: usize, byte: u8) -> u64
     number + ((byte as u64) << (8 * i))
 }
 
-// The low bytes of a number, so many.
+// The low bytes of a number, so many. (A shift by 64 bits is none, so that all bytes are a case of their own.)
+#[tactic(auto, using(crate::proofs::LoadLaws::all_bytes))]
 fn low_bytes(number: u64, bytes: usize) -> u64
-    requires { bytes ≤ 8 }
     ensures { result ≡ num (le bytes number) }
 {
     if bytes < 8 {
@@ -185,11 +183,7 @@ fn low_bytes(number: u64, bytes: usize) -> u64
 // The image's own bytes: a load where the overlay has none.
 #[tactic(auto, using(crate::proofs::LoadLaws::image_short, crate::proofs::LoadLaws::image_full))]
 fn of_image(image: Image, bytes: usize) -> Option<u64>
-    requires { bytes ≤ 8 }
     ensures { result ≡ load_in [] (le image.count image.number) 0 bytes }
 {
-    if image.count < bytes {
-        return None;
-    }
-    Some(low_bytes(image.number, bytes))
+    (bytes <= image.count).then_some(low_bytes(image.number, bytes))
 }

@@ -1,4 +1,4 @@
-// How many entries of a row come before an address.
+// How many entries of a row come before an address. (Of places and ranks in clauses `row` speaks.)
 ghost use Rattle.std.specs.Prelude.{◌≡◌, suc, ◌+◌, ◌-◌, ◌*◌, ◌<◌, ◌≤◌, min, length};
 ghost use Rattle.memory.specs.Overlay.{rank};
 ghost use Rattle.memory.specs.Post.{IsOverlay, Lies, passed};
@@ -34,7 +34,8 @@ impl<'a> Row<'a> {
             + self.before(base + 3 * quarter, address)
     }
 
-    // How many of at most four entries come before an address.
+    // How many of at most four entries come before an address. (Not `(base..end).filter(..).count()`, which was proved: how many turns it takes is guessed wrong,
+    // so that a byte stored at random among 256 takes 1.04 of BTreeMap's time in place of 0.96.)
     #[tactic(auto, using(crate::proofs::SearchLaws::last_are, crate::proofs::SearchLaws::four_fit))]
     fn last_four(&self, base: usize, end: usize, address: u64) -> usize
         requires { Lies self.now address base end × (end ≤ base + 4) }
@@ -53,7 +54,8 @@ impl<'a> Row<'a> {
     {
         let mut base = least;
         let mut size = most - least;
-        // The library's search would halve the stretch, with a branch in each turn, and has no order for entries of nine bytes.
+        // (Not `partition_point` of the entries as arrays, which was proved: its branch is guessed wrong at random addresses, so that a byte loaded among 256 takes
+        // 1.41 of BTreeMap's time in place of 0.65, and stored again 1.71 in place of 0.72.)
         while 4 < size {
             let quarter = size / 4;
             base += quarter * self.quarters(base, quarter, address);
@@ -76,7 +78,7 @@ impl<'a> Row<'a> {
         self.between(least, most, address)
     }
 
-    // How many entries come before an address. Entries are at least one apart, so that an address is no farther from the first one and from the last one, in
+    // How many entries come before an address, 0 where none does. Entries are at least one apart, so that an address is no farther from the first one and from the last one, in
     // entries, than its distance from theirs.
     // (Inlined, since a call would write the row to memory first.)
     #[inline(always)]
@@ -103,6 +105,7 @@ impl<'a> Row<'a> {
     }
 
     // How many entries come before the address past the last one, if at least so many do.
+    #[tactic(auto, using(crate::proofs::OverlayLaws::rank_most))]
     pub fn past(&self, from: usize, last: u64) -> usize
         requires { from ≤ rank (suc last) self.now }
         ensures { result ≡ rank (suc last) self.now }

@@ -1,6 +1,6 @@
 -- What the steps that give a value, or tell what was done, come to. Assumes nothing.
 use Rattle.std.proofs.Common.{◌≡◌, ℕ, zero, suc, ◌*◌, ◌<◌, Bool, true, false, not, ◌&&◌, ◌||◌, eqb, List, sym, refl, ap, ◌∙◌, subst, ap₂, arith, ne_eqb}
-use Rattle.std.specs.Prelude.{Option, None, Some, Result, Ok, Err}
+use Rattle.std.specs.Prelude.{[], Option, None, Some, Result, Ok, Err}
 use mir.Val.{bool_byte}
 use Rattle.layout.specs.Format.{bool_of}
 use Rattle.value.specs.declared.Ty.{Ty}
@@ -22,15 +22,16 @@ use Rattle.hosting.specs.declared.Counts.{Counts}
 use Rattle.hosting.specs.declared.How.{How}
 use Rattle.hosting.specs.declared.Short.{Short}
 use Rattle.hosting.specs.declared.Short.TheVariants.{Full, Why}
-use Rattle.hosting.specs.declared.Note.TheVariants.{Nothing, Fields, Written, Unknown}
+use Rattle.stream.specs.declared.NotePiece.TheVariants.{Nothing, Fields, Written, Unknown}
 use Rattle.hosting.specs.declared.Did as code
 use Rattle.operations.specs.declared.results.Told.{Told}
 use Rattle.operations.specs.declared.results.Told.TheVariants as told
 use Rattle.stream.specs.declared.Reason.{Reason}
 use Rattle.stream.specs.declared.Reason.TheVariants.{ByZero}
 use Rattle.stream.specs.Bodies.{reason_at}
-use Rattle.hosting.specs.Ending.{ended, end_of, did_of, done_of, note_of, answer_end}
-use Rattle.operations.specs.Registers.{counts_in, short_at, short_in, result_in, told_at, kind_in, told_in, did_write, did_by, end_in}
+use Rattle.stream.specs.Pieces.{note_of}
+use Rattle.hosting.specs.Ending.{ended, end_of, did_of, done_of, answer_end}
+use Rattle.operations.specs.Registers.{counts_in, short_at, short_in, result_in, told_at, kind_in, told_in, did_write, did_by, did_in, end_in}
 use Rattle.operations.specs.Steps.{Gives, GivesShort, TellsPlace, Tells, Answers, Enters, EntersCounts, EntersHow, noted_end}
 use Rattle.operations.specs.Steps as steps
 use Rattle.operations.proofs.Registers.{counts_by_lem, how_by, short_by, told_by, counts_kept, result_value, aside_aside, beside_beside, beside_word, beside_value}
@@ -65,24 +66,19 @@ tells_place e p q = record {
   beside = beside_beside (beside_word (omega arith) p) (beside_word (omega arith) q);
   told = ap told_at (on q 11 (omega arith) (λ e. absurd (omega (arith, e))) p.here) ∙ e;
   place = q.here;
+  fields = on q 13 (omega arith) (λ e. absurd (omega (arith, e))) (p.words 13 (omega arith) (λ e. absurd (omega (arith, e))));
 }
 
 module _ {w : List ℕ} {x : ℕ} {w₁ w₂ : List ℕ} where
   -- with a value, or with how many fields
-  tells_value : {k : Told} {v : Val} → TellsPlace w k x w₁ → SetsValue w₁ 1 v w₂ → Tells w (did_by k x (word_at (registers_part w₁) 13) v) true w₂
+  pub tells_value : {k : Told} {v : Val} → TellsPlace w k x w₁ → SetsValue w₁ 1 v w₂ → Tells w (did_in w k x v) true w₂
   unfolding kind_in
   tells_value {v = v} p r = record {
     beside = beside_beside p.beside (beside_value r);
     yes = refl;
-    told = told_by w₂ (word_at (registers_part w₁) 11) x (word_at (registers_part w₁) 13) v (r.words 11 (omega arith)) (r.words 12 (omega arith) ∙ p.place) (r.words 13 (omega arith)) r.here
-        ∙ ap (λ (k : Told). did_by k x (word_at (registers_part w₁) 13) v) p.told;
+    told = told_by w₂ (word_at (registers_part w₁) 11) x (word_at (registers_part w) 13) v (r.words 11 (omega arith)) (r.words 12 (omega arith) ∙ p.place) (r.words 13 (omega arith) ∙ p.fields) r.here
+        ∙ ap (λ (k : Told). did_in w k x v) p.told;
   }
-
-  pub tells_wrote : {v : Val} → TellsPlace w told.Wrote x w₁ → SetsValue w₁ 1 v w₂ → Tells w (did_write x v) true w₂
-  tells_wrote p r = tells_value p r
-
-  pub tells_written : {v : Val} → TellsPlace w told.Written x w₁ → SetsValue w₁ 1 v w₂ → Tells w (did (act.value_written x v)) true w₂
-  tells_written p r = tells_value p r
 
   pub tells_fields : {n : ℕ} → TellsPlace w told.Fields x w₁ → SetsWord w₁ 13 n w₂ → Tells w (did (act.fields_written x n)) true w₂
   unfolding kind_in
@@ -152,36 +148,20 @@ module _ (w : List ℕ) {ok : Bool} where
   outcome_value y e = sym (by_true (short_in w) y (sym (e ∙ result_value w)))
 
 -- what an Assign told, by its number
-pub told_number : (w : List ℕ) {n k : ℕ} → n ≡ word_at (registers_part w) 11 → n ≡ k → told_at k ≡ kind_in w
+pub told_zero : (n : ℕ) → n ≡ 0 → told.Wrote ≡ told_at n
+told_zero n q = ap told_at (sym q)
+
+pub told_one : (n : ℕ) → n ≡ 1 → told.Fields ≡ told_at n
+told_one n q = ap told_at (sym q)
+
+pub told_other : (n : ℕ) → (n ≡ 0 → ⊥) → (n ≡ 1 → ⊥) → told.Written ≡ told_at n
+told_other zero z o = absurd (z refl)
+told_other (suc zero) z o = absurd (o refl)
+told_other (suc (suc n)) z o = refl
+
+pub told_last : (w : List ℕ) {n : ℕ} {t : Told} → n ≡ word_at (registers_part w) 11 → t ≡ told_at n → t ≡ kind_in w
 unfolding kind_in
-told_number w e q = ap told_at (sym q ∙ e)
-
-other_told : (n : ℕ) → (n ≡ 0 → ⊥) → (n ≡ 1 → ⊥) → told.Written ≡ told_at n
-other_told zero z o = absurd (z refl)
-other_told (suc zero) z o = absurd (o refl)
-other_told (suc (suc n)) z o = refl
-
-pub told_other : (w : List ℕ) (n : ℕ) → n ≡ word_at (registers_part w) 11 → (n ≡ 0 → ⊥) → (n ≡ 1 → ⊥) → told.Written ≡ kind_in w
-unfolding kind_in
-told_other w n e z o = other_told n z o ∙ ap told_at e
-
--- the same of a word that is, or is not, a choice's own number
-pub told_same : (w : List ℕ) {n k : ℕ} {t : Told} → n ≡ word_at (registers_part w) 11 → told_at k ≡ t → n ≡ k → t ≡ kind_in w
-unfolding kind_in
-told_same w e et q = sym et ∙ ap told_at (sym q ∙ e)
-
-wrote_number : (k : ℕ) → told_at k ≡ told.Wrote → k ≡ 0
-wrote_number zero e = refl
-wrote_number (suc zero) e = cc
-wrote_number (suc (suc k)) e = cc
-
-fields_number : (k : ℕ) → told_at k ≡ told.Fields → k ≡ 1
-fields_number zero e = cc
-fields_number (suc zero) e = refl
-fields_number (suc (suc k)) e = cc
-
-pub told_neither : (w : List ℕ) {n j k : ℕ} → n ≡ word_at (registers_part w) 11 → told_at j ≡ told.Wrote → told_at k ≡ told.Fields → (n ≡ j → ⊥) → (n ≡ k → ⊥) → told.Written ≡ kind_in w
-told_neither w {n} {j} {k} e ej ek z o = told_other w n e (λ q. z (q ∙ sym (wrote_number j ej))) (λ q. o (q ∙ sym (fields_number k ek)))
+told_last w e q = q ∙ ap told_at e
 
 -- what an Assign told, by its words
 module _ (w : List ℕ) {t : Told} (et : t ≡ kind_in w) where
@@ -193,10 +173,10 @@ module _ (w : List ℕ) {t : Told} (et : t ≡ kind_in w) where
     pub did_wrote : t ≡ told.Wrote → did_of (record { wrote = Some (x, v); note = Nothing }) ≡ told_in w
     did_wrote e = ap₂ did_write ex ev ∙ sym (told_as e)
 
-    pub did_value : (d : code.Did) → t ≡ told.Written → did_of d ≡ did (note_of (Written x v)) → did_of d ≡ told_in w
+    pub did_value : (d : code.Did) → t ≡ told.Written → did_of d ≡ did (note_of (Written x v) []) → did_of d ≡ told_in w
     did_value d e h = h ∙ ap₂ (λ (y : ℕ) (u : Val). did (act.value_written y u)) ex ev ∙ sym (told_as e)
 
-    pub did_fields : {n : ℕ} (d : code.Did) → t ≡ told.Fields → n ≡ word_at (registers_part w) 13 → did_of d ≡ did (note_of (Fields x n)) → did_of d ≡ told_in w
+    pub did_fields : {n : ℕ} (d : code.Did) → t ≡ told.Fields → n ≡ word_at (registers_part w) 13 → did_of d ≡ did (note_of (Fields x n) []) → did_of d ≡ told_in w
     did_fields d e en h = h ∙ ap₂ (λ (y m : ℕ). did (act.fields_written y m)) ex en ∙ sym (told_as e)
 
 -- ---- the note of a statement that is no Assign
@@ -223,10 +203,10 @@ module _ (w : List ℕ) (kind : ℕ) (ok : Bool) where
     noted_as : (t : Bool) → ((eqb kind 14 || eqb kind 15) && not v.known) && not h ≡ t → did_of d ≡ did (note_if t) → done_of (Ok d) ≡ noted_end kind ok w
     noted_as t c ed = ap (λ (z : Did). ended z) ed ∙ sym (by_true (short_in w) y (ap (λ (z : act.Note). did z) (noted_if t c)))
 
-    pub noted_unknown : ((eqb kind 14 || eqb kind 15) && not v.known) && not h ≡ true → did_of d ≡ did (note_of Unknown) → done_of (Ok d) ≡ noted_end kind ok w
+    pub noted_unknown : ((eqb kind 14 || eqb kind 15) && not v.known) && not h ≡ true → did_of d ≡ did (note_of Unknown []) → done_of (Ok d) ≡ noted_end kind ok w
     noted_unknown c g = noted_as true c g
 
-    pub noted_nothing : ((eqb kind 14 || eqb kind 15) && not v.known) && not h ≡ false → did_of d ≡ did (note_of Nothing) → done_of (Ok d) ≡ noted_end kind ok w
+    pub noted_nothing : ((eqb kind 14 || eqb kind 15) && not v.known) && not h ≡ false → did_of d ≡ did (note_of Nothing []) → done_of (Ok d) ≡ noted_end kind ok w
     noted_nothing c g = noted_as false c g
 
 -- ---- a value told in another way

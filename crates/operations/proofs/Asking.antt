@@ -1,7 +1,7 @@
 -- What asking the world is, as a run on the code's host: a question answered and written, and loads. Assumes nothing.
 use Rattle.std.proofs.Common.{◌≡◌, ℕ, zero, suc, ◌+◌, ◌-◌, ◌/◌, ◌%◌, ◌^◌, ◌<◌, ◌≤◌, max, Bool, not, eqb, List, ◌∷◌, length, drop, sym, refl, ap, ◌∙◌, subst, ap₂, mod-eq_of_lt, arith}
 use Rattle.std.specs.Prelude.{Option, None, Some}
-use borrow.Rule.Slice.PartMut.{mid_of, put_mid, same_len_mid}
+use borrow.Rule.Slice.PartMut.{mid_of, put_mid}
 use Rattle.layout.specs.Format.{bool_of}
 use Rattle.layout.specs.Number.{le, num}
 use Rattle.value.specs.declared.Ty.{Ty}
@@ -20,7 +20,7 @@ use Rattle.stream.specs.Stream.{placed, advanced, Sent}
 use Rattle.stream.specs.Pieces.{question_bytes, read_entry}
 use Rattle.stream.proofs.StreamLaws.{length_placed}
 use Rattle.workspace.specs.Parts.{workspace_size, registers_part, tables_place, tables, regions_place, regions_size, regions_part, questions_place, questions_part}
-use Rattle.workspace.specs.Registers.{word_count, word_at}
+use Rattle.workspace.specs.Registers.{word_at}
 use Rattle.workspace.specs.View.{View, view, Fit}
 use Rattle.workspace.specs.Post.{SetsWord, PutsQuestions}
 use Rattle.workspace.proofs.LendLaws.{regions_lent, questions_lent, questions_back}
@@ -54,19 +54,10 @@ sends_held e {w} {o} {w'} {o'} s =
       tally = b.tally;
     }) s.counts
 
--- what a writer did beside the tables keeps the workspace's length
-module _ (w : List ℕ) {on : Bool} {piece q : List ℕ} {place next : ℕ} (u : Sent on (mid_of questions_place (length w - questions_place) w) place piece q next) where
-  abbrev beside : List ℕ
-  beside = put_mid questions_place (length w - questions_place) w q
-
-  sent_length : length q ≡ length (mid_of questions_place (length w - questions_place) w)
-  sent_length = ap length u.part ∙ length_placed on (mid_of questions_place (length w - questions_place) w) place piece
-
-  pub sent_size : length beside ≡ length w
-  sent_size = same_len_mid questions_place (length w - questions_place) w q sent_length
-
-  pub sent_room : workspace_size ≤ length w → (workspace_size ≤ length beside) × (2 < word_count)
-  sent_room h = (omega (arith, sent_size), omega arith)
+-- what a writer did beside the tables keeps the part's length
+sent_length : (w : List ℕ) {on : Bool} {piece q : List ℕ} {place next : ℕ} → Sent on (mid_of questions_place (length w - questions_place) w) place piece q next
+    → length q ≡ length (mid_of questions_place (length w - questions_place) w)
+sent_length w {on} {piece} {q} {place} u = ap length u.part ∙ length_placed on (mid_of questions_place (length w - questions_place) w) place piece
 
 -- from what a writer of a piece did twice, in the record and beside the tables, with the cursor that the registers hold
 pub sends_of : (piece w o : List ℕ) (place k cursor next : ℕ) (q w' o' : List ℕ) → workspace_size ≤ length w → place ≡ word_at (registers_part w) 2 → k ≡ word_at (registers_part w) 8

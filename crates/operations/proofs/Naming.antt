@@ -1,8 +1,7 @@
 -- What reading, writing and taking the address of a name is, from what the code did for it. Assumes nothing.
-use Rattle.std.proofs.Common.{◌≡◌, ℕ, ◌+◌, ◌*◌, ◌<◌, ◌≤◌, Bool, true, false, not, List, [], length, sym, refl, ap, ◌∙◌, subst, true≢false, mod-eq_of_lt, arith, eq-eqb, ne_eqb}
+use Rattle.std.proofs.Common.{◌≡◌, ℕ, ◌+◌, ◌*◌, ◌<◌, ◌≤◌, Bool, true, false, List, [], length, sym, refl, ap, ◌∙◌, subst, true≢false, mod-eq_of_lt, arith, eq-eqb, ne_eqb}
 use Rattle.std.specs.Prelude.{Option, None, Some}
 use Rattle.std.proofs.lemmas.Option.{none-some}
-use borrow.Author.Tests.{not-true, not-false}
 use Rattle.value.specs.declared.Ty.{Ty}
 use Rattle.value.specs.declared.Val.{Val}
 use Rattle.value.specs.Value.{type, known_val, unknown_val, cast_to}
@@ -294,15 +293,15 @@ module _ {nodes symbols : List ℕ} {n : ℕ} {w o w₁ o₁ : List ℕ} {r₁ :
           ap (λ (u : Val). and_told (ref_of nodes n) (store_val a u >> done u)) (sym ec)
           ∙ bind_done (store_val a c) c (λ y. done (did_write (ref_of nodes n) y))
 
-      pub symbol_stores : {w₃ w' : List ℕ} (ok : Bool) {r : Bool} → Works (store_val a c) w₂ (unit_in ok w₃) w₃ → not ok ≡ false → Tells w₃ (did_write name c) r w' → WritesSymbol nodes symbols n v w o r w' o₂
+      pub symbol_stores : {w₃ w' : List ℕ} (ok : Bool) {r : Bool} → Works (store_val a c) w₂ (unit_in ok w₃) w₃ → ok ≡ true → Tells w₃ (did_write name c) r w' → WritesSymbol nodes symbols n v w o r w' o₂
       symbol_stores {w₃} {w'} ok {r} s q t = record {
         goes = λ regions. from_width k regions
-            (acts (λ h x _. stores_as) (goes _ (told (sym (by_true (short_in w₃) (not-false ok q) refl)) (s.goes (given nodes symbols regions) o₂)) (tells_goes (subst (λ (j : ℕ). Tells w₃ (did_write j c) r w') en t))));
+            (acts (λ h x _. stores_as) (goes _ (told (sym (by_true (short_in w₃) q refl)) (s.goes (given nodes symbols regions) o₂)) (tells_goes (subst (λ (j : ℕ). Tells w₃ (did_write j c) r w') en t))));
       }
 
-      pub symbol_unstored : {w' : List ℕ} (ok : Bool) → Works (store_val a c) w₂ (unit_in ok w') w' → not ok ≡ true → WritesSymbol nodes symbols n v w o false w' o₂
+      pub symbol_unstored : {w' : List ℕ} (ok : Bool) → Works (store_val a c) w₂ (unit_in ok w') w' → ok ≡ false → WritesSymbol nodes symbols n v w o false w' o₂
       symbol_unstored ok s q = record {
-        goes = λ regions. from_width k regions (acts (λ h x _. stores_as) (halts _ _ (told (sym (by_false tt (not-true ok q) refl)) (s.goes (given nodes symbols regions) o₂))));
+        goes = λ regions. from_width k regions (acts (λ h x _. stores_as) (halts _ _ (told (sym (by_false tt q refl)) (s.goes (given nodes symbols regions) o₂))));
       }
 
 -- ---- a variable is written

@@ -1,5 +1,7 @@
 -- What the operations ensure that ask the world: loads, and names that may be symbols. Assumes nothing.
 use Rattle.std.specs.Prelude.{◌≡◌, ℕ, Bool, true, false, not, List, length, Option, None, Some}
+use Rattle.std.specs.Fn.{Shared}
+use denote.Ref.{MutBor}
 use Rattle.value.specs.declared.Ty.{Ty}
 use Rattle.value.specs.declared.Val.{Val}
 use Rattle.value.specs.Value.{type, known_val, unknown_val, cast_to}
@@ -12,7 +14,7 @@ use Rattle.definition.specs.Term.{nothing}
 use Rattle.definition.specs.Evaluate.{Env, width_in, type_or, look, address_val, assign_val}
 use Rattle.stream.specs.declared.Symbol.{Symbol}
 use Rattle.stream.specs.declared.Symbol.TheVariants.{AddressOf, SizeOf}
-use Rattle.stream.specs.Stream.{placed, advanced}
+use Rattle.stream.specs.Stream.{placed, advanced, Sent}
 use Rattle.workspace.specs.Parts.{tables, questions_part}
 use Rattle.workspace.specs.Types.{declared_at}
 use Rattle.workspace.specs.Post.{Kept}
@@ -24,6 +26,10 @@ use Rattle.operations.specs.Registers.{counts_in, units_of, how_in, end_in, told
 use Rattle.operations.specs.Going.{Goes}
 
 -- ---- questions
+
+-- a writer of a piece: at a part, the cursor and whether the stream is on, it sends the bytes, and gives where the cursor stands then
+pub record Writer {W : Type 0} (g : Shared W (MutBor (List ℕ) × (ℕ × (Bool × Unit {0}))) (ℕ × (MutBor (List ℕ) × Unit {0}))) (f : W) (bytes : List ℕ) : Type 0 where
+  pub sent : (p q : MutBor (List ℕ)) (at next : ℕ) (on : Bool) → g.post f (p, (at, (on, tt))) (next, (q, tt)) → Sent on p.now at bytes q.now next
 
 -- bytes are sent to the stream of questions
 pub record Sends (bytes w o w' o' : List ℕ) : Type 0 where

@@ -75,6 +75,10 @@ did_by Wrote x n v = did_write x v
 did_by Fields x n v = did (fields_written x n)
 did_by Written x n v = did (value_written x v)
 
+-- with the fields that the registers have
+abbrev pub did_in : List ℕ → Told → ℕ → Val → Did
+did_in w k x v = did_by k x (word_at (registers_part w) 13) v
+
 unfoldable pub told_in : List ℕ → Did
 told_in w = did_by (told_at (word_at (registers_part w) 11)) (word_at (registers_part w) 12) (word_at (registers_part w) 13) (value_at (registers_part w) 1)
 

@@ -42,11 +42,12 @@ pub record GivesShort (w : List ℕ) (s : Short) (r : Bool) (w' : List ℕ) : Ty
   pub no : r ≡ false
   pub why : short_in w' ≡ s
 
--- an Assign tells what it wrote, and where or to which variable
+-- an Assign tells what it wrote, and where or to which variable; how many fields, is not changed
 pub record TellsPlace (w : List ℕ) (k : Told) (x : ℕ) (w' : List ℕ) : Type 0 where
   pub beside : Beside w w'
   pub told : kind_in w' ≡ k
   pub place : word_at (registers_part w') 12 ≡ x
+  pub fields : word_at (registers_part w') 13 ≡ word_at (registers_part w) 13
 
 -- an Assign tells what it did
 pub record Tells (w : List ℕ) (d : Did) (r : Bool) (w' : List ℕ) : Type 0 where

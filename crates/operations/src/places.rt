@@ -1,5 +1,5 @@
 // Operations at places: among the nodes, and in memory.
-ghost use Rattle.std.specs.Prelude.{◌≡◌, ◌+◌, ◌*◌, ◌/◌, ◌<◌, ◌≤◌, max, length};
+ghost use Rattle.std.specs.Prelude.{◌≡◌, is_some, ◌+◌, ◌*◌, ◌/◌, ◌<◌, ◌≤◌, max, length};
 ghost use Rattle.files.specs.Nodes.{kind_of, ref_of, value_of};
 ghost use Rattle.files.specs.Spells.{next};
 ghost use Rattle.definition.specs.Memory.{store_val};
@@ -15,7 +15,8 @@ ghost use Rattle.operations.specs.Going.{Works};
 ghost use Rattle.operations.specs.Asking.{Sends, found_val, LoadsAt};
 ghost use Rattle.operations.specs.Steps.{Gives, Targets, base_at, store_through, store_field, Builds, CountsFields};
 
-use crate::results::{ASKED, REGIONS, RESULT, SECOND, STORED, ends, fields, is, written};
+use crate::questions::send;
+use crate::results::{REGIONS, RESULT, STORED, Told, ends, fields, is, wrote};
 use crate::siblings::Siblings;
 use crate::values::{type_of, unknown};
 use files::kinds::Kind;
@@ -25,7 +26,7 @@ use index::regions;
 use memory::{Full, Image};
 use stream::Reason;
 use value::{Ty, Val};
-use workspace::{QUESTIONS, registers, types};
+use workspace::{registers, types};
 
 // A Deref's target: the node that is evaluated, and the type of what it points at.
 #[derive(Clone, Copy)]
@@ -43,6 +44,7 @@ pub fn next(nodes: &[u8], n: usize) -> usize
 }
 
 // What is evaluated for a pointer at node n: what is under it, if it is a Cast to a pointer.
+#[tactic(auto, using(files::proofs::KindLaws::of_kind))]
 pub fn target_of(nodes: &[u8], ws: &[u8], n: usize) -> Target
     requires workspace_long { workspace_size ≤ length ws.now }
     requires node_inside { n * 20 + 20 ≤ length nodes.now }
@@ -61,6 +63,7 @@ pub fn target_of(nodes: &[u8], ws: &[u8], n: usize) -> Target
 }
 
 // The pointer of a struct's store without one Cast.
+#[tactic(auto, using(files::proofs::KindLaws::of_kind, files::proofs::KindLaws::no_such, crate::proofs::Targeting::at_cast, crate::proofs::Targeting::at_other))]
 pub fn base(nodes: &[u8], n: usize) -> usize
     requires { n * 20 + 20 ≤ length nodes.now }
     ensures { result ≡ base_at nodes.now n }
@@ -79,43 +82,36 @@ fn bytes_of(bits: u32) -> usize
     requires { bits ≤ 64 }
     ensures { (result ≡ max (bits / 8) 1) × (result ≤ 8) }
 {
-    let n = bits as usize / 8;
-    if n == 0 { 1 } else { n }
+    (bits as usize / 8).max(1)
 }
 
-// `read` is asked, and written with the bytes that it answers: in the first pass beside the tables, if it fits there, in the second in the record.
+// `read` is asked, and written with the bytes that it answers.
 fn ask_read(ws: &mut [u8], out: &mut [u8], address: u64, size: usize, image: Image)
     requires workspace_long { workspace_size ≤ length ws.old }
     requires count_bound { image.count ≤ 8 }
     ensures { Sends (question_bytes (read_entry address size image.count image.number)) ws.old out.old ws.new out.new }
 {
-    let asked = registers::word(ws, ASKED);
-    let second = registers::word(ws, SECOND) != 0;
-    let cursor = stream::question_read(
+    let Image { count, number } = image;
+    send(
+        ws,
         out,
-        asked,
-        second,
-        address,
-        size as u64,
-        image.count as u64,
-        image.number,
+        |part, at, on| stream::question_read(
+            part,
+            at,
+            on,
+            address,
+            size as u64,
+            count as u64,
+            number,
+        ),
     );
-    stream::question_read(
-        &mut ws[QUESTIONS..],
-        asked,
-        !second,
-        address,
-        size as u64,
-        image.count as u64,
-        image.number,
-    );
-    registers::set_word(ws, ASKED, cursor);
 }
 
 // What a load found.
-fn loaded(ws: &mut [u8], found: Option<u64>, ty: Ty) -> bool
+#[tactic(auto, using(crate::proofs::Asking::found_known, crate::proofs::Asking::found_unknown))]
+fn loaded(ws: &mut [u8], found: Option<u64>, ty: Ty) -> Option<()>
     requires { workspace_size ≤ length ws.old }
-    ensures { Gives ws.old (found_val ty found) result ws.new }
+    ensures { Gives ws.old (found_val ty found) (is_some result) ws.new }
 {
     match found {
         Some(n) => is(ws, Val::known(n, ty)),
@@ -124,11 +120,12 @@ fn loaded(ws: &mut [u8], found: Option<u64>, ty: Ty) -> bool
 }
 
 // The bytes of a type's width from an address on: those of the run's own, else of the world's `read`, which is asked in any case.
-pub fn load_at(regions: &[u8], ws: &mut [u8], out: &mut [u8], address: u64, ty: Ty) -> bool
+#[tactic(auto, using(crate::proofs::Asking::sends_room, crate::proofs::Asking::load_asks))]
+pub fn load_at(regions: &[u8], ws: &mut [u8], out: &mut [u8], address: u64, ty: Ty) -> Option<()>
     requires fit { Fit ws.old (counts_in ws.old).stored }
     requires regions_indexed { RegionsIndexed regions.now (regions_part (tables ws.old)) (how_in ws.old).regions }
     requires bits_bound { ty.bits ≤ 64 }
-    ensures { LoadsAt regions.now address ty ws.old out.old result ws.new out.new }
+    ensures { LoadsAt regions.now address ty ws.old out.old (is_some result) ws.new out.new }
 {
     let bytes = bytes_of(ty.bits);
     let stored = registers::word(ws, STORED) as usize;
@@ -141,47 +138,47 @@ pub fn load_at(regions: &[u8], ws: &mut [u8], out: &mut [u8], address: u64, ty: 
 }
 
 // The bytes of a value are stored from an address on.
-pub fn store_value(ws: &mut [u8], address: u64, v: Val) -> bool
+#[tactic(auto, using(crate::proofs::Working::value_unknown))]
+pub fn store_value(ws: &mut [u8], address: u64, v: Val) -> Option<()>
     requires { Fit ws.old (counts_in ws.old).stored }
-    ensures { Works (store_val address v) ws.old (unit_in result ws.new) ws.new }
+    ensures { Works (store_val address v) ws.old (unit_in (is_some result) ws.new) ws.new }
 {
     if !v.known {
         return ends(ws, Short::Why(Reason::UnknownValue, address));
     }
     let stored = registers::word(ws, STORED) as usize;
-    let s = workspace::store_number(ws, stored, address, v.number, v.bits as usize / 8);
-    match s {
+    match workspace::store_number(ws, stored, address, v.number, v.bits as usize / 8) {
         Ok(n) => {
             registers::set_word(ws, STORED, n as u64);
-            true
+            Some(())
         }
         Err(Full) => ends(ws, Short::Full),
     }
 }
 
 // A value of a type is stored through the pointer that is the last result, which node n gave.
-pub fn store(ws: &mut [u8], n: usize, ty: Ty, v: Val) -> bool
+#[tactic(auto, using(crate::proofs::Working::store_nowhere, crate::proofs::Working::store_short, crate::proofs::Working::store_through_lem))]
+pub fn store(ws: &mut [u8], n: usize, ty: Ty, v: Val) -> Option<()>
     requires { Fit ws.old (counts_in ws.old).stored }
-    ensures { Works (store_through n (result_in ws.old) ty v) ws.old (told_end result ws.new) ws.new }
+    ensures { Works (store_through n (result_in ws.old) ty v) ws.old (told_end (is_some result) ws.new) ws.new }
 {
     let p = registers::value(ws, RESULT);
     if !p.known {
         return ends(ws, Short::Why(Reason::UnknownAddress, n as u64));
     }
     let c = v.cast(ty);
-    if !store_value(ws, p.number, c) {
-        return false;
-    }
-    written(ws, p.number, c)
+    store_value(ws, p.number, c)?;
+    wrote(ws, Told::Written, p.number, c)
 }
 
 // ---- fields
 
 // The last result is stored as the field at node n, at its offset from an address.
-pub fn store_field(nodes: &[u8], ws: &mut [u8], n: usize, address: u64) -> bool
+#[tactic(auto, using(crate::proofs::Working::field_works))]
+pub fn store_field(nodes: &[u8], ws: &mut [u8], n: usize, address: u64) -> Option<()>
     requires fit { Fit ws.old (counts_in ws.old).stored }
     requires typed { TypeAt nodes.now n }
-    ensures { Works (store_field address (value_of nodes.now n) (type_at (tables ws.old) (ref_of nodes.now n)) (result_in ws.old)) ws.old (unit_in result ws.new) ws.new }
+    ensures { Works (store_field address (value_of nodes.now n) (type_at (tables ws.old) (ref_of nodes.now n)) (result_in ws.old)) ws.old (unit_in (is_some result) ws.new) ws.new }
 {
     let ty = type_of(nodes, ws, n);
     let offset = nodes::value(nodes, n);
@@ -191,6 +188,7 @@ pub fn store_field(nodes: &[u8], ws: &mut [u8], n: usize, address: u64) -> bool
 }
 
 // How many fields stand from node n up to node end.
+#[tactic(auto, using(crate::proofs::Rows::row_of_fields, crate::proofs::Counting::counts_of))]
 fn count(nodes: &[u8], n: usize, end: usize) -> u64
     requires { FineFields nodes.now n end }
     ensures { CountsFields nodes.now n end result }
@@ -199,10 +197,11 @@ fn count(nodes: &[u8], n: usize, end: usize) -> u64
 }
 
 // The fields from node n up to node end were stored from an address on.
-pub fn built(nodes: &[u8], ws: &mut [u8], n: usize, end: usize, address: u64) -> bool
+#[tactic(auto, using(crate::proofs::Counting::built_fields))]
+pub fn built(nodes: &[u8], ws: &mut [u8], n: usize, end: usize, address: u64) -> Option<()>
     requires workspace_long { workspace_size ≤ length ws.old }
     requires fine_fields { FineFields nodes.now n end }
-    ensures { Builds nodes.now n end address ws.old result ws.new }
+    ensures { Builds nodes.now n end address ws.old (is_some result) ws.new }
 {
     let k = count(nodes, n, end);
     fields(ws, address, k)

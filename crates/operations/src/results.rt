@@ -1,17 +1,18 @@
 // What an evaluation comes to, put in the registers and taken from them.
-ghost use Rattle.std.specs.Prelude.{◌≡◌, ◌==◌, ◌||◌, ◌≤◌, length};
-ghost use Rattle.definition.specs.Act.{fields_written, value_written};
+ghost use Rattle.std.specs.Prelude.{◌≡◌, is_some, [], ◌==◌, ◌||◌, ◌≤◌, length};
+ghost use Rattle.definition.specs.Act.{fields_written};
 ghost use Rattle.definition.specs.Evaluate.{did};
 ghost use Rattle.files.specs.Program.{number_of};
 ghost use Rattle.stream.specs.Bodies.{reason_at};
+ghost use Rattle.stream.specs.Pieces.{note_of};
 ghost use Rattle.workspace.specs.Parts.{workspace_size};
-ghost use Rattle.hosting.specs.Ending.{end_of, did_of, done_of, note_of};
-ghost use Rattle.operations.specs.Registers.{counts_in, short_at, short_in, did_write, told_at, kind_in, told_in, end_in, told_end};
+ghost use Rattle.hosting.specs.Ending.{end_of, did_of, done_of};
+ghost use Rattle.operations.specs.Registers.{counts_in, short_at, short_in, did_in, told_at, kind_in, told_in, end_in, told_end};
 ghost use Rattle.operations.specs.Steps.{Gives, GivesShort, TellsPlace, Tells, Enters, EntersCounts, EntersHow, noted_end};
 
 use files::kinds::Kind;
-use hosting::{Counts, Did, How, Note, Short, Tally};
-use stream::Reason;
+use hosting::{Counts, Did, How, Short, Tally};
+use stream::{NotePiece, Reason};
 use value::Val;
 use workspace::{note, registers};
 
@@ -51,47 +52,54 @@ pub const RESULT: usize = 0;
 
 pub const WROTE: usize = 1;
 
-// What an Assign wrote: a variable, fields, or a value at an address.
+// What an Assign wrote: a variable, fields, or a value at an address. The numbers are those in the registers.
 #[derive(Clone, Copy, PartialEq, Eq)]
 pub enum Told {
-    Wrote,
-    Fields,
-    Written,
+    Wrote = 0,
+    Fields = 1,
+    Written = 2,
 }
 
-// Its number in the registers, and what a number there tells.
 impl From<Told> for u64 {
     ghost from_gives = { λ told n. told_at n ≡ told };
 
     fn from(told: Told) -> u64 {
-        match told {
-            Told::Wrote => 0,
-            Told::Fields => 1,
-            Told::Written => 2,
+        told as u64
+    }
+}
+
+// What a number tells. Numbers past the last one's stand for it too.
+impl From<u64> for Told {
+    ghost from_gives = { λ number told. told ≡ told_at number };
+
+    #[tactic(auto, using(crate::proofs::Answering::told_zero, crate::proofs::Answering::told_one, crate::proofs::Answering::told_other))]
+    fn from(number: u64) -> Told {
+        match number {
+            0 => Told::Wrote,
+            1 => Told::Fields,
+            _ => Told::Written,
         }
     }
 }
 
+#[tactic(auto, using(crate::proofs::Answering::told_last))]
 pub fn last_told(ws: &[u8]) -> Told
     requires { workspace_size ≤ length ws.now }
     ensures { result ≡ kind_in ws.now }
 {
-    match registers::word(ws, TOLD) {
-        0 => Told::Wrote,
-        1 => Told::Fields,
-        _ => Told::Written,
-    }
+    Told::from(registers::word(ws, TOLD))
 }
 
 // ---- put
 
 // A value.
-pub fn is(ws: &mut [u8], v: Val) -> bool
+#[tactic(auto, using(crate::proofs::Answering::gives_value))]
+pub fn is(ws: &mut [u8], v: Val) -> Option<()>
     requires { workspace_size ≤ length ws.old }
-    ensures { Gives ws.old v result ws.new }
+    ensures { Gives ws.old v (is_some result) ws.new }
 {
     registers::set_value(ws, RESULT, v);
-    true
+    Some(())
 }
 
 // A reason's number, 0 where the workspace is full, and what it names.
@@ -104,14 +112,14 @@ fn coded(short: Short) -> (u64, u64)
     }
 }
 
-pub fn ends(ws: &mut [u8], short: Short) -> bool
+pub fn ends(ws: &mut [u8], short: Short) -> Option<()>
     requires { workspace_size ≤ length ws.old }
-    ensures { GivesShort ws.old short result ws.new }
+    ensures { GivesShort ws.old short (is_some result) ws.new }
 {
     let (code, number) = coded(short);
     registers::set_word(ws, REASON, code);
     registers::set_word(ws, NUMBER, number);
-    false
+    None
 }
 
 // What an Assign told, and where or of which variable.
@@ -123,39 +131,33 @@ fn tells(ws: &mut [u8], told: Told, place: u64)
     registers::set_word(ws, WHERE, place);
 }
 
-// A variable was written. (This and the next two share `tells`, and put another value beside what it puts.)
-pub fn wrote(ws: &mut [u8], name: usize, v: Val) -> bool
+// A value was written, to a variable or at an address. (Inlined, so that the number of what is told is known.)
+#[tactic(auto, using(crate::proofs::Answering::tells_value))]
+#[inline(always)]
+pub fn wrote(ws: &mut [u8], told: Told, place: u64, v: Val) -> Option<()>
     requires { workspace_size ≤ length ws.old }
-    ensures { Tells ws.old (did_write name v) result ws.new }
+    ensures { Tells ws.old (did_in ws.old told place v) (is_some result) ws.new }
 {
-    tells(ws, Told::Wrote, name as u64);
+    tells(ws, told, place);
     registers::set_value(ws, WROTE, v);
-    true
+    Some(())
 }
 
-// So many fields were written from an address on.
-pub fn fields(ws: &mut [u8], address: u64, count: u64) -> bool
+// So many fields were written from an address on. (As `wrote`, with a number beside where.)
+#[tactic(auto, using(crate::proofs::Answering::tells_fields))]
+pub fn fields(ws: &mut [u8], address: u64, count: u64) -> Option<()>
     requires { workspace_size ≤ length ws.old }
-    ensures { Tells ws.old (did (fields_written address count)) result ws.new }
+    ensures { Tells ws.old (did (fields_written address count)) (is_some result) ws.new }
 {
     tells(ws, Told::Fields, address);
     registers::set_word(ws, FIELDS, count);
-    true
-}
-
-// A value was written at an address.
-pub fn written(ws: &mut [u8], address: u64, v: Val) -> bool
-    requires { workspace_size ≤ length ws.old }
-    ensures { Tells ws.old (did (value_written address v)) result ws.new }
-{
-    tells(ws, Told::Written, address);
-    registers::set_value(ws, WROTE, v);
-    true
+    Some(())
 }
 
 // ---- between the registers and what a caller hands over
 
 // How the run goes, and its counts.
+#[tactic(auto, using(crate::proofs::Answering::enters))]
 pub fn enter(ws: &mut [u8], how: How, at: Counts)
     requires { workspace_size ≤ length ws.old }
     ensures { Enters ws.old how at ws.new }
@@ -177,6 +179,7 @@ fn enter_counts(ws: &mut [u8], at: Counts)
     registers::set_word(ws, STEPS, t.steps);
 }
 
+#[tactic(auto, using(crate::proofs::Answering::enters_how))]
 fn enter_how(ws: &mut [u8], how: How)
     requires { workspace_size ≤ length ws.old }
     ensures { EntersHow ws.old how ws.new }
@@ -208,78 +211,80 @@ fn short(ws: &[u8]) -> Short
     requires { workspace_size ≤ length ws.now }
     ensures { result ≡ short_in ws.now }
 {
-    match Reason::numbered(registers::word(ws, REASON)) {
-        Some(reason) => Short::Why(reason, registers::word(ws, NUMBER)),
-        None => Short::Full,
+    match Reason::try_from(registers::word(ws, REASON)) {
+        Ok(reason) => Short::Why(reason, registers::word(ws, NUMBER)),
+        Err(_) => Short::Full,
     }
 }
 
 // What an evaluation came to.
-pub fn outcome(ws: &[u8], ok: bool) -> Result<Val, Short>
+#[tactic(auto, using(crate::proofs::Answering::outcome_value))]
+pub fn outcome(ws: &[u8], ok: Option<()>) -> Result<Val, Short>
     requires { workspace_size ≤ length ws.now }
-    ensures { end_of result ≡ end_in ok ws.now }
+    ensures { end_of result ≡ end_in (is_some ok) ws.now }
 {
-    if ok {
-        Ok(registers::value(ws, RESULT))
-    } else {
-        Err(short(ws))
+    match ok {
+        Some(()) => Ok(registers::value(ws, RESULT)),
+        None => Err(short(ws)),
     }
 }
 
 // What wrote no variable, with a note.
-fn notes(note: Note) -> Did
-    ensures { did_of result ≡ did (note_of note) }
+fn notes(note: NotePiece) -> Did
+    ensures { did_of result ≡ did (note_of note []) }
 {
     Did { wrote: None, note }
 }
 
-// What an Assign that did not end short did. (By the word itself: of a `match` on `last_told` the compiler makes the enum's number first.)
+// What an Assign that did not end short did.
+#[tactic(auto, using(crate::proofs::Answering::did_wrote, crate::proofs::Answering::did_fields, crate::proofs::Answering::did_value))]
 fn did(ws: &[u8]) -> Did
     requires { workspace_size ≤ length ws.now }
     ensures { did_of result ≡ told_in ws.now }
 {
     let place = registers::word(ws, WHERE);
     let value = registers::value(ws, WROTE);
-    let told = registers::word(ws, TOLD);
-    if told == u64::from(Told::Wrote) {
-        Did {
+    match last_told(ws) {
+        Told::Wrote => Did {
             wrote: Some((place as usize, value)),
-            note: Note::Nothing,
-        }
-    } else if told == u64::from(Told::Fields) {
-        notes(Note::Fields(place, registers::word(ws, FIELDS)))
-    } else {
-        notes(Note::Written(place, value))
+            note: NotePiece::Nothing,
+        },
+        Told::Fields => notes(NotePiece::Fields(place, registers::word(ws, FIELDS))),
+        Told::Written => notes(NotePiece::Written(place, value)),
     }
 }
 
 // What an Assign came to.
-pub fn executed(ws: &[u8], ok: bool) -> Result<Did, Short>
+pub fn executed(ws: &[u8], ok: Option<()>) -> Result<Did, Short>
     requires { workspace_size ≤ length ws.now }
-    ensures { done_of result ≡ told_end ok ws.now }
+    ensures { done_of result ≡ told_end (is_some ok) ws.now }
 {
-    if ok { Ok(did(ws)) } else { Err(short(ws)) }
+    match ok {
+        Some(()) => Ok(did(ws)),
+        None => Err(short(ws)),
+    }
 }
 
 fn is_called(kind: Kind) -> bool
     ensures { result ≡ (number_of kind == 14 || number_of kind == 15) }
 {
-    (kind == Kind::Call) | (kind == Kind::Intrinsic)
+    matches!(kind, Kind::Call | Kind::Intrinsic)
 }
 
 // What a statement came to that is no Assign: a Call or an Intrinsic whose value is unknown is noted, unless a call left a note.
-pub fn noted(ws: &[u8], kind: Kind, ok: bool) -> Result<Did, Short>
+#[tactic(auto, using(crate::proofs::Answering::noted_unknown, crate::proofs::Answering::noted_nothing))]
+pub fn noted(ws: &[u8], kind: Kind, ok: Option<()>) -> Result<Did, Short>
     requires { workspace_size ≤ length ws.now }
-    ensures { done_of result ≡ noted_end (number_of kind) ok ws.now }
+    ensures { done_of result ≡ noted_end (number_of kind) (is_some ok) ws.now }
 {
-    if !ok {
+    let Some(()) = ok else {
         return Err(short(ws));
-    }
+    };
     let v = registers::value(ws, RESULT);
     let called = is_called(kind);
     if called & !v.known & !note::has_note(ws) {
-        Ok(notes(Note::Unknown))
+        Ok(notes(NotePiece::Unknown))
     } else {
-        Ok(notes(Note::Nothing))
+        Ok(notes(NotePiece::Nothing))
     }
 }

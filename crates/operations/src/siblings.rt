@@ -1,4 +1,5 @@
-// Nodes side by side: each after the first is the one past all that is under the one before.
+// Nodes side by side: each after the first is the one past all that is under the one before. (Alike in form are index's places of blocks and of regions: one
+// iterator for the three would ask a trait for an item's size and the law of it, which is what each of them is.)
 ghost use Rattle.std.specs.Prelude.{◌≡◌, ◌-◌};
 ghost use Rattle.std.specs.Iterator.{at_most};
 ghost use Rattle.operations.specs.Rows.{Row, Steps};

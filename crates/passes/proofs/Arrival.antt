@@ -10,7 +10,7 @@ use Rattle.value.specs.Value.{type, known_val}
 use Rattle.memory.specs.Overlay.{Overlay, Cell}
 use Rattle.files.specs.FileTable.{body}
 use Rattle.files.specs.Program.{program_of}
-use Rattle.files.specs.Call.{limits_of, limits_in}
+use Rattle.files.specs.Call.{limits_of}
 use Rattle.definition.specs.Act.{Why, End, gave, stopped}
 use Rattle.definition.specs.State.{Out}
 use Rattle.definition.specs.Statements as statements
@@ -29,7 +29,7 @@ use Rattle.hosting.specs.declared.Facts.{Facts}
 use Rattle.hosting.specs.declared.How.{How}
 use Rattle.hosting.specs.declared.Indexed.{Indexed}
 use Rattle.hosting.specs.declared.Stop.{Stop}
-use Rattle.hosting.specs.declared.Stop.TheVariants.{ReturnedNothing, Returned, Steps, Unknown, NoBlock, NoBlocks, NoReturn, Halted}
+use Rattle.hosting.specs.declared.Stop.TheVariants.{Returned, Steps, Unknown, NoBlock, NoBlocks, NoReturn, Halted}
 use Rattle.hosting.specs.declared.Short.TheVariants.{Full, Why as Because}
 use Rattle.hosting.specs.declared.Walked.{Walked}
 use Rattle.hosting.specs.Scene.{Given, given, Narrow, SymbolsRead, Ready, Meant}
@@ -45,13 +45,6 @@ use Rattle.walk.specs.Units.{Balanced}
 use Rattle.passes.specs.Passing.{start_counts, BesideIf, Passed, PassedIf, Passes, walked_of, out_of, WalksOf, full_of}
 use Rattle.passes.proofs.Simulation.{Like, ends_alike}
 use Rattle.passes.proofs.Streams.{questions_short}
-
--- ---- a call's limits
-
-pub limits_are : (c b : List ℕ) (steps depth : ℕ) → b ≡ body c 0 → (steps ≡ (limits_in b).steps) × (depth ≡ (limits_in b).depth)
-    → (steps ≡ (limits_of c).steps) × (depth ≡ (limits_of c).depth)
-unfolding limits_of
-limits_are c b steps depth e h = (h.0 ∙ ap (λ (z : List ℕ). (limits_in z).steps) e, h.1 ∙ ap (λ (z : List ℕ). (limits_in z).depth) e)
 
 -- ---- the tables of a workspace
 
@@ -90,7 +83,6 @@ walk_told routine world limit p q s t u e h = rw (p, q, s, t, u, e) at h
 
 pub full_end : (limit : ℕ) (stop : Stop) → full_of stop ≡ true → stop_end limit stop ≡ short None
 unfolding full_of
-full_end limit ReturnedNothing h = absurd (true≢false (sym h))
 full_end limit (Returned v) h = absurd (true≢false (sym h))
 full_end limit Steps h = absurd (true≢false (sym h))
 full_end limit (Unknown at Full) h = refl
@@ -106,7 +98,6 @@ pub record EndsWith (e : Ending statements.Stop) : Type 0 where
 
 pub whole_end : (limit : ℕ) (stop : Stop) → full_of stop ≡ false → EndsWith (stop_end limit stop)
 unfolding full_of
-whole_end limit ReturnedNothing h = record { stop = _; same = refl }
 whole_end limit (Returned v) h = record { stop = _; same = refl }
 whole_end limit Steps h = record { stop = _; same = refl }
 whole_end limit (Unknown at Full) h = absurd (true≢false h)

@@ -18,7 +18,7 @@ use Rattle.definition.specs.Run.{ran}
 use Rattle.definition.proofs.Walked.{walks}
 use Rattle.workspace.specs.View.{view}
 use Rattle.stream.specs.declared.Lengths.{Lengths}
-use Rattle.stream.specs.Bodies.{stop_place, counts_place, steps_place, pairs_of, lengths_of}
+use Rattle.stream.specs.Bodies.{stop_place, counts_place, steps_place, questions_start, pairs_of, lengths_of}
 use Rattle.stream.proofs.RecordLaws.{pairs_are, record_written}
 use Rattle.hosting.specs.declared.Tally.{Tally}
 use Rattle.hosting.specs.declared.Counts.{Counts}
@@ -90,15 +90,14 @@ module _ (R : Ran) (limit : ℕ) (x : Stop) (w : List ℕ) (a : Counts) (f : End
       ap₂ (λ (vs : Overlay Val) (ms : Overlay Cell). in_place vs ms (counts_body a'.tally.entered a'.tally.steps)) h.variables h.memory
       ∙ ap₂ (λ (n m : ℕ). in_place R.variables R.memory (counts_body n m)) h.entered h.recorded
 
-  pub completes : (steps : ℕ) → steps ≡ limit → QuestionsPut R b₀ (steps_place + l.steps + l.variables + l.memory) b₁ w' a' → PutsBodies steps x w' a' l b₁ b₂ → Completes R b₀ b₂
-  completes steps hs s p = record {
+  pub completes : (steps q : ℕ) → steps ≡ limit → q ≡ questions_start l → QuestionsPut R b₀ q b₁ w' a' → PutsBodies steps x w' a' l b₁ b₂ → Completes R b₀ b₂
+  completes steps q hs hq s p = record {
     written = λ old h.
         let v = steps_place + l.steps in
         let m = v + l.variables in
-        let q = m + l.memory in
         let k : length b₀ ≡ length old = ap length h ∙ length-sets old steps_place (steps_body R.steps) in
         let z : length (record_bytes R) ≤ length old = omega (arith, e.whole, e.in_buffer) in
-        record_written R v m q (omega (arith, e.steps)) (omega (arith, e.variables)) (omega (arith, e.memory)) old z h s.written refl refl refl refl
+        record_written R v m q (omega (arith, e.steps)) (omega (arith, e.variables)) (omega (arith, hq, e.memory)) old z h s.written refl refl refl refl
         (p.bytes R.stop (ap (λ (n : ℕ). stop_end n x) hs ∙ f.stop)
         ∙ ap₂ (λ (t ps : List ℕ). sets t 0 ps) (in_place_lem s.holds) (pairs_are R l e.steps e.variables e.memory e.questions));
   }

@@ -8,10 +8,8 @@ use native.Mathlib.Omega.{arith}
 use lib.ListN.{length}
 use Rattle.value.specs.declared.Val.{Val}
 use Rattle.memory.specs.Overlay.{Overlay, Cell}
-use Rattle.files.specs.FileTable.{HasBody, body}
+use Rattle.files.specs.FileTable.{body}
 use Rattle.files.specs.Program.{program_of, tree_at}
-use Rattle.files.specs.Refusal.{routine_refusal, constant_refusal}
-use Rattle.files.proofs.Accepted as accepted
 use Rattle.definition.specs.Act.{End, gave, stopped}
 use Rattle.definition.specs.State.{Out}
 use Rattle.definition.specs.Term.{eval}
@@ -41,12 +39,6 @@ use Rattle.passes.proofs.Buffer.{length_stored}
 use Rattle.passes.proofs.Streams.{questions_short}
 
 -- ---- what the evaluation needs
-
-pub nodes_there : (r : List ℕ) (n : ℕ) → constant_refusal r n ≡ 0 → HasBody r 3
-nodes_there r n h = accepted.routine_body r (accepted.constant r n h).routine 3 (omega arith)
-
-pub routine_ok : (r : List ℕ) (n : ℕ) → constant_refusal r n ≡ 0 → routine_refusal r ≡ 0
-routine_ok r n h = (accepted.constant r n h).routine
 
 pub eval_ready : {routine w nodes : List ℕ} {count : ℕ} {a : Counts} {limit : ℕ} → nodes ≡ body routine 3 → a ≡ start_counts limit → ConstantTabled routine w count → Ready (given nodes [] [] (how_of 0 count false)) w a
 eval_ready p e t = rw (p, e) (record { fit = t.fit; narrow = t.narrow; symbols = t.symbols; regions = t.regions })

@@ -6,7 +6,7 @@ use Rattle.definition.specs.Run.{ran}
 use Rattle.passes.specs.declared.accepted.Accepted.{Accepted}
 
 abbrev pub ran_of : Accepted → Ran
-ran_of f = ran f.routine.now f.world.now f.call.now
+ran_of f = ran f.routine.bytes.now f.world.bytes.now f.call.bytes.now
 
 abbrev pub steps_of : Accepted → ℕ
-steps_of f = (limits_of f.call.now).steps
+steps_of f = (limits_of f.call.bytes.now).steps

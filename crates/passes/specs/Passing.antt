@@ -14,7 +14,7 @@ use Rattle.stream.specs.Stream.{Counted, Streamed}
 use Rattle.hosting.specs.declared.Tally.{Tally}
 use Rattle.hosting.specs.declared.Counts.{Counts}
 use Rattle.hosting.specs.declared.Stop as code
-use Rattle.hosting.specs.declared.Stop.TheVariants.{ReturnedNothing, Returned, Steps, Unknown, NoBlock, NoBlocks, NoReturn, Halted}
+use Rattle.hosting.specs.declared.Stop.TheVariants.{Returned, Steps, Unknown, NoBlock, NoBlocks, NoReturn, Halted}
 use Rattle.hosting.specs.declared.Short.{Short}
 use Rattle.hosting.specs.declared.Short.TheVariants.{Full, Why}
 use Rattle.hosting.specs.Ending.{Ending, ended, short}
@@ -109,7 +109,6 @@ without_room Full = true
 without_room (Why r n) = false
 
 unfoldable pub full_of : code.Stop → Bool
-full_of ReturnedNothing = false
 full_of (Returned v) = false
 full_of Steps = false
 full_of (Unknown at s) = without_room s

@@ -13,9 +13,9 @@ use Rattle.files.specs.FileTable.{body}
 use Rattle.files.specs.Items.{read_from, reading, every}
 use Rattle.files.specs.Names.{names_in}
 use Rattle.files.specs.WorldFile.{symbols_ok, regions_in}
-use Rattle.files.specs.Refusal.{routine_refusal, world_ok, call_ok}
+use Rattle.files.specs.Refusal.{routine_refusal, world_ok}
 use Rattle.files.specs.Program.{texts_in, program_of}
-use Rattle.files.proofs.Accepted.{call, body_short}
+use Rattle.files.proofs.Accepted.{body_short}
 use Rattle.index.specs.Texts.{Texts, text_count}
 use Rattle.index.specs.Symbols.{Symbols}
 use Rattle.index.specs.Regions.{Regions}
@@ -23,7 +23,7 @@ use Rattle.index.specs.Blocks.{Blocks}
 use Rattle.index.proofs.Accepted.{names_read, types_read, routine_types, routine_blocks, world_symbols, world_regions}
 use Rattle.index.proofs.RegionPlaces.{regions_accepted}
 use Rattle.index.proofs.TextPlaces.{types_count}
-use Rattle.std.specs.Prelude.{Option, Some}
+use Rattle.std.specs.Prelude.{Option, None, Some}
 use Rattle.setup.specs.Heads.{Heads}
 use Rattle.setup.specs.Post.{Finds, Returning, Knows}
 use Rattle.setup.proofs.HeadLaws.{has, heads}
@@ -71,25 +71,21 @@ no_regions = regions_accepted [] (omega arith) (omega arith)
 
 -- ---- the facts of a routine
 
-module _ {returns t : List ℕ} {s : Bool} (e : t ≡ returns) (f : s ≡ same t (text "void")) where
-  is_void : {u : Bool} → s ≡ u → same returns (text "void") ≡ u
-  is_void q = ap (λ (l : List ℕ). same l (text "void")) (sym e) ∙ sym f ∙ q
+module _ (r : List ℕ) {types head t : List ℕ} {i : ℕ} {s : Bool} (q : types ≡ body r 1) (o : head ≡ body r 2) (g : i ≡ number_at head 10 2) (e : t ≡ get_or (texts_in types) i []) (f : s ≡ same t (text "void")) where
+  returns_text : t ≡ get_or (program_of r).types (program_of r).returns []
+  unfolding program_of
+  returns_text = e ∙ ap₂ (λ (l : List ℕ) (j : ℕ). get_or (texts_in l) j []) q (g ∙ ap (λ (l : List ℕ). number_at l 10 2) o)
 
-  pub returns_as_lem : {ty : Ty} → s ≡ false → ty ≡ type_of t → Returning returns (Some ty)
-  returns_as_lem q g = record { is = λ v. rw (is_void q, g, e) }
+  is_void : (u : Bool) → s ≡ u → same (get_or (program_of r).types (program_of r).returns []) (text "void") ≡ u
+  is_void u h = ap (λ (l : List ℕ). same l (text "void")) (sym returns_text) ∙ sym f ∙ h
 
-pub knows : (r : List ℕ) {names types head : List ℕ} {count i : ℕ} {u x : Option ℕ} {R : Option Ty} → names ≡ body r 0 → types ≡ body r 1 → head ≡ body r 2 → i ≡ number_at head 10 2
-    → Returning (get_or (texts_in types) i []) R → Finds names (text "__builtin_unreachable") u → Finds names (text "__analysis_halted") x
-    → Knows (program_of r) count (record { blocks = count; returns = R; unreachable = u; halted = x })
+  pub returns_void : s ≡ true → Returning (get_or (program_of r).types (program_of r).returns []) None
+  returns_void h = record { is = λ v. rw (is_void true h) }
+
+  pub returns_as_lem : {ty : Ty} → s ≡ false → ty ≡ type_of t → Returning (get_or (program_of r).types (program_of r).returns []) (Some ty)
+  returns_as_lem h k = record { is = λ v. rw (is_void false h, k, returns_text) }
+
+pub knows : (r : List ℕ) {names : List ℕ} {count : ℕ} {u x : Option ℕ} {R : Option Ty} → names ≡ body r 0 → Returning (get_or (program_of r).types (program_of r).returns []) R
+    → Finds names (text "__builtin_unreachable") u → Finds names (text "__analysis_halted") x → Knows (program_of r) count (record { blocks = count; returns = R; unreachable = u; halted = x })
 unfolding program_of
-knows r {names} {types} {head} {i = i} {R = R} p q o g a b c =
-    let e : get_or (texts_in types) i [] ≡ get_or (texts_in (body r 1)) (number_at (body r 2) 10 2) [] = ap₂ (λ (l : List ℕ) (j : ℕ). get_or (texts_in l) j []) q (g ∙ ap (λ (l : List ℕ). number_at l 10 2) o) in
-    record {
-      count = refl;
-      named = record { returned = (subst (λ (l : List ℕ). Returning l R) e a).is; unreachable = rw p at b.is; halted = rw p at c.is };
-    }
-
--- ---- the body of a call
-
-pub call_room : (c : List ℕ) {b : List ℕ} → call_ok c ≡ true → b ≡ body c 0 → 8 ≤ length b
-call_room c h e = omega (arith, (call c h).room, ap length e)
+knows r p a b c = record { count = refl; named = record { returned = a.is; unreachable = rw p at b.is; halted = rw p at c.is } }

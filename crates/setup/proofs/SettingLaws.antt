@@ -1,8 +1,9 @@
 -- Variables set one after another: parameters at the start, where the last of a name stands, and those that are not set at the end, where the first
 -- does. Assumes nothing.
 use mathlib.Core.Path.{◌≡◌, refl, sym, ap, ap₂, ◌∙◌}
+use mathlib.Core.Bool.{Bool, true, false, not}
 use mathlib.Core.List.{List, [], ◌∷◌, ◌++◌}
-use Rattle.std.specs.Prelude.{Option, None, Some, slice_get}
+use Rattle.std.specs.Prelude.{Option, None, Some, is_some, slice_get}
 use Prim.Native.Nat.{ℕ, ◌+◌}
 use lib.ListN.{length, get_or}
 use Rattle.value.specs.declared.Ty.{Ty}
@@ -102,14 +103,30 @@ end_none head w = record { size = refl; same = refl; changes = λ types typed. c
 -- ---- one name that may be set
 
 module _ (w : List ℕ) (x : ℕ) (t : Ty) {r : Option Val} (e : r ≡ find x (variables_in (frame_part w))) where
-  pub added_set : (v : Val) → r ≡ Some v → Changes w (adding x t) w
+  added_set : (v : Val) → r ≡ Some v → Changes w (adding x t) w
   unfolding view
   added_set v q =
       let o = sym e ∙ q in
       record { holds = λ s. rw o; tables = refl; fit = λ s h. h; size = refl; registers = refl; questions = refl }
 
-  pub added_unset : {v : Val} {w' : List ℕ} → r ≡ None → v ≡ unknown_val t → Changes w (setting x v) w' → Changes w (adding x t) w'
+  added_unset : {v : Val} {w' : List ℕ} → r ≡ None → v ≡ unknown_val t → Changes w (setting x v) w' → Changes w (adding x t) w'
   unfolding view
   added_unset {v} q p c =
       let o = sym e ∙ q in
       record { holds = λ s. c.holds s ∙ rw (o, p); tables = c.tables; fit = c.fit; size = c.size; registers = c.registers; questions = c.questions }
+
+  -- by the test that none is set
+  module _ {b : Bool} (is : is_some r ≡ not b) where
+    pub added_else : b ≡ false → Changes w (adding x t) w
+    added_else f = go r refl
+      where
+        go : (o : Option Val) → r ≡ o → Changes w (adding x t) w
+        go None q = let h : false ≡ true = sym (ap is_some q) ∙ is ∙ ap not f in cc
+        go (Some v) q = added_set v q
+
+    pub added_then : b ≡ true → {v : Val} {w' : List ℕ} → v ≡ unknown_val t → Changes w (setting x v) w' → Changes w (adding x t) w'
+    added_then f {v} {w'} p c = go r refl
+      where
+        go : (o : Option Val) → r ≡ o → Changes w (adding x t) w'
+        go None q = added_unset q p c
+        go (Some y) q = let h : true ≡ false = sym (ap is_some q) ∙ is ∙ ap not f in cc

@@ -1,21 +1,21 @@
 // What a run needs to know of its routine beside the bodies.
-ghost use Rattle.std.specs.Prelude.{◌≡◌, [], ◌<◌, get_or};
-ghost use Rattle.files.specs.Refusal.{routine_refusal};
-ghost use Rattle.files.specs.Program.{texts_in, program_of};
-ghost use Rattle.index.specs.Texts.{Texts, text_count};
+ghost use Rattle.std.specs.Prelude.{[], get_or};
+ghost use Rattle.files.specs.Program.{program_of};
 ghost use Rattle.setup.specs.Post.{Returning, Knows};
 
+use crate::head::RETURNS;
 use crate::texts::{find_name, text_numbered};
-use files::table::body;
+use files::checked::Routine;
 use hosting::Facts;
 use value::Ty;
 
-// The type to which a routine whose return type is type i casts a value that it returns, none for `void`.
-fn returns_of(types: &[u8], i: usize) -> Option<Ty>
-    requires { (Texts types.now) × (i < text_count types.now) }
-    ensures { Returning (get_or (texts_in types.now) i []) result }
+// The type to which a routine casts a value that it returns, none for `void`.
+#[tactic(auto, using(crate::proofs::BodyFacts::head_room, crate::proofs::BodyFacts::returns_void, crate::proofs::BodyFacts::returns_as_lem, layout::proofs::TextLaws::slices_same))]
+fn returns_of(routine: Routine) -> Option<Ty>
+    ensures { let p = program_of routine.entry.bytes.now in Returning (get_or p.types p.returns []) result }
 {
-    let text = text_numbered(types, i);
+    let i = layout::get::<2>(routine.head(), RETURNS) as usize;
+    let text = text_numbered(routine.types(), i);
     if text == b"void".as_slice() {
         return None;
     }
@@ -23,15 +23,14 @@ fn returns_of(types: &[u8], i: usize) -> Option<Ty>
 }
 
 // The facts of a routine of so many blocks.
-pub fn facts_of(routine: &[u8], blocks: usize) -> Facts
-    requires { routine_refusal routine.now ≡ 0 }
-    ensures { Knows (program_of routine.now) blocks result }
+#[tactic(auto, using(crate::proofs::BodyFacts::names_good, crate::proofs::BodyFacts::names_short))]
+pub fn facts_of(routine: Routine, blocks: usize) -> Facts
+    ensures { Knows (program_of routine.entry.bytes.now) blocks result }
 {
-    let names = body(routine, 0);
-    let i = layout::get::<2>(body(routine, 2), 10) as usize;
+    let names = routine.names();
     Facts {
         blocks,
-        returns: returns_of(body(routine, 1), i),
+        returns: returns_of(routine),
         unreachable: find_name(names, b"__builtin_unreachable"),
         halted: find_name(names, b"__analysis_halted"),
     }

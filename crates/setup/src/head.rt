@@ -3,10 +3,12 @@ ghost use Rattle.std.specs.Prelude.{◌≡◌, ◌≤◌, ◌<◌, length};
 ghost use Rattle.std.proofs.Props.{props};
 ghost use Rattle.setup.specs.Heads.{variable_count, parameter_count, Heads, Reads};
 
-// The bytes before the variables, and those of a variable.
-const FIXED: usize = 13;
+use files::head::{FIXED, VARIABLE};
 
-const VARIABLE: usize = 4;
+// Where a head has the number of the type that the routine returns, and how many parameters there are.
+pub(crate) const RETURNS: usize = 10;
+
+const PARAMETERS: usize = 12;
 
 // A name's number and a type's.
 #[derive(Clone, Copy)]
@@ -32,10 +34,11 @@ impl Head<'_> {
     pub(crate) fn parameter_count(self) -> usize
         ensures { (result ≡ parameter_count self.entry.bytes.now) × (result ≤ variable_count self.entry.bytes.now) }
     {
-        self.bytes[12] as usize
+        self.bytes[PARAMETERS] as usize
     }
 
     // Variable k.
+    #[tactic(auto, using(crate::proofs::HeadLaws::reads))]
     pub(crate) fn variable_at(self, k: usize) -> Named
         requires { k < variable_count self.bytes.now }
         ensures { Reads self.entry.bytes.now k result }

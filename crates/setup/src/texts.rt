@@ -1,4 +1,5 @@
 // The texts of a body of names or types, one after another, and the types that they spell.
+// (`Texts` stays a clause: names and types, of a routine or a world, meet it alike, and a type that has it would stand in two functions.)
 ghost use Rattle.std.specs.Prelude.{◌≡◌, [], ◌≤◌, ◌<◌, length, get_or};
 ghost use Rattle.files.specs.Program.{texts_in};
 ghost use Rattle.files.specs.Names.{names_in};

@@ -7,6 +7,7 @@ ghost use Rattle.setup.specs.Each.{Callable, Visited};
 ghost use Rattle.setup.specs.Post.{DeclaresSome, Empties, arguments_in, StartsSome, EndsSome};
 
 use crate::head::{Head, Named};
+use files::call::Body;
 use value::{Ty, Val};
 use workspace::types::{declare, type_of};
 use workspace::variables::{set_variable, variable};
@@ -19,7 +20,7 @@ struct Variable {
     ty: Ty,
 }
 
-// The first so many variables, one after another, each put into the workspace as a caller says.
+// The first so many variables, one after another, each put into the workspace as a caller says. (The functions that call it have one form, and another step.)
 fn each<F: Fn(&mut [u8], Variable)>(head: Head, count: usize, ws: &mut [u8], put: F)
     requires counted { count ≤ variable_count head.bytes.now }
     requires callable { Callable F.Fn put head.bytes.now ws.old count }
@@ -50,20 +51,19 @@ pub fn empty(ws: &mut [u8])
 }
 
 // The argument of parameter k, cast to a type; one that is missing is unknown.
-fn argument_as(call: &[u8], k: usize, ty: Ty) -> Val
-    requires { 8 ≤ length call.now }
-    ensures { result ≡ argument_if (slice_get (arguments_in call.now) k) ty }
+fn argument_as(call: Body, k: usize, ty: Ty) -> Val
+    ensures { result ≡ argument_if (slice_get (arguments_in call.entry.bytes.now) k) ty }
 {
-    if k < files::call::arguments(call) {
-        return Val::known(files::call::argument(call, k), Ty::I64).cast(ty);
+    if k < call.argument_count() {
+        return Val::known(call.argument(k), Ty::I64).cast(ty);
     }
     Val::unknown(ty)
 }
 
 // The parameters are set; the last of a name stands.
-pub fn set_parameters(head: Head, call: &[u8], ws: &mut [u8])
-    requires { (8 ≤ length call.now) × (workspace_size ≤ length ws.old) }
-    ensures { StartsSome head.entry.bytes.now call.now (parameter_count head.entry.bytes.now) ws.old ws.new }
+pub fn set_parameters(head: Head, call: Body, ws: &mut [u8])
+    requires { workspace_size ≤ length ws.old }
+    ensures { StartsSome head.entry.bytes.now call.entry.bytes.now (parameter_count head.entry.bytes.now) ws.old ws.new }
 {
     let count = head.parameter_count();
     each(
@@ -79,10 +79,8 @@ fn add_if_unset(ws: &mut [u8], x: usize, ty: Ty)
     requires { (workspace_size ≤ length ws.old) × (x < 512) }
     ensures { Changes ws.old (adding x ty) ws.new }
 {
-    let slot = variable(ws, x);
-    match slot {
-        Some(_) => (),
-        None => set_variable(ws, x, Val::unknown(ty)),
+    if variable(ws, x).is_none() {
+        set_variable(ws, x, Val::unknown(ty));
     }
 }
 

@@ -12,6 +12,7 @@ use value::Ty;
 // Whether a piece is a word. The word is a slice here, since `==` compares no slice with an array.
 // The words below are told apart by this and not by a match on byte strings: where no word fits, a match leaves only the piece's length known, and
 // the proof didn't close.
+#[tactic(auto, using(layout::proofs::TextLaws::slices_same))]
 fn is(w: &[u8], word: &[u8]) -> bool
     ensures { result ≡ same w.now word.now }
 {
@@ -66,6 +67,7 @@ fn fixed_bits(name: &[u8]) -> Option<u32>
 }
 
 // A base type of one word: of a size, of a fixed width, with `u` before its name where it has no sign, or any other word.
+#[tactic(auto, using(crate::proofs::Fixed::size, crate::proofs::Fixed::signed_size))]
 fn type_of_fixed(w: &[u8], unsigned: bool) -> Ty
     ensures { result ≡ unsigned_word unsigned w.now }
 {

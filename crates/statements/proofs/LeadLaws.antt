@@ -3,6 +3,7 @@ use mathlib.Core.Path.{◌≡◌, refl, sym, ap, ◌∙◌}
 use mathlib.Core.Bool.{Bool, true, false}
 use mathlib.Core.List.{List}
 use Rattle.std.specs.Prelude.{Option, None, Some, Result, Ok, Err, ok_or}
+use Rattle.std.specs.Option.{option_or}
 use Prim.Native.Nat.{ℕ, zero, suc, ◌+◌, ◌-◌, ◌*◌, ◌≤◌, ◌<◌}
 use native.Mathlib.Nat.{add-zero, add-suc, suc-add}
 use native.Mathlib.Omega.{arith}
@@ -77,11 +78,14 @@ module _ {ss blocks : List ℕ} {p : Place} {n : ℕ} (count : (n ≡ number_at 
   pub last_inside : Dealt ss blocks p → (n ≡ 0 → ⊥) → (p.first + (n - 1)) * 13 + 13 ≤ length ss
   last_inside d ne = omega (arith, d.dealt, count.0)
 
-pub address_own : {ss blocks : List ℕ} {p : Place} {address : Option ℕ} {a : ℕ} → address ≡ Some a → AddressIs ss blocks p address (Some a)
-address_own {ss} {blocks} {p} e = record { is = λ nodes. ap (λ (m : Option ℕ). walk.address_or m (statements_at nodes ss blocks p)) (sym e) }
+module _ {ss blocks : List ℕ} {p : Place} where
+  address_by : (address : Option ℕ) {l r : Option ℕ} → LastIs ss blocks p l → r ≡ option_or address l → AddressIs ss blocks p address r
+  address_by None last e = record { is = λ nodes. e ∙ last.is nodes }
+  address_by (Some a) last e = record { is = λ nodes. e }
 
-pub address_last : {ss blocks : List ℕ} {p : Place} {address r : Option ℕ} → address ≡ None → LastIs ss blocks p r → AddressIs ss blocks p address r
-address_last {ss} {blocks} {p} e l = record { is = λ nodes. l.is nodes ∙ ap (λ (m : Option ℕ). walk.address_or m (statements_at nodes ss blocks p)) (sym e) }
+  -- a terminator's own address, or else the last one
+  pub address_is : {address l r : Option ℕ} → LastIs ss blocks p l → r ≡ option_or address l → AddressIs ss blocks p address r
+  address_is {address} last e = address_by address last e
 
 -- ---- what comes next
 

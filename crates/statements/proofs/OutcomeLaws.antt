@@ -5,6 +5,7 @@ use mathlib.Core.List.{List}
 use Rattle.std.specs.Prelude.{Option, None, Some, Result, Ok, Err}
 use Prim.Native.Nat.{ℕ, ◌+◌, ◌*◌, ◌≤◌, ◌<◌}
 use native.Mathlib.Omega.{arith}
+use borrow.Author.Tests.{eq-eqb}
 use lib.ListN.{length}
 use Rattle.value.specs.declared.Ty.{Ty}
 use Rattle.value.specs.declared.Val.{Val}
@@ -125,7 +126,7 @@ module _ {b symbols regions : List ℕ} {f : Facts} {n : ℕ} {w o : List ℕ} (
 
   pub acting_leaves : {s : ℕ} → kind_of b n ≡ 16 → (s ≡ span_of b n) × (s < 4294967296) → s ≡ 1 → Acting b symbols regions f n w o (Ok Leaves) w o
   unfolding returning
-  acting_leaves k e z = at_once (λ at. (did no_note, Some (Returned None))) (λ at. refl) (sort_gives refl k) (λ P E at t h. ap (returning P) (returns_none E k (sym e.0 ∙ z) h))
+  acting_leaves k e z = at_once (λ at. (did no_note, Some (Returned None))) (λ at. refl) (sort_gives b f n refl (eq-eqb (kind_of b n) 16 k)) (λ P E at t h. ap (returning P) (returns_none E k (sym e.0 ∙ z) h))
 
 -- a value is returned
 abbrev gave_end : Option Ty → Val → End Outcome
@@ -156,7 +157,7 @@ module _ {b symbols regions : List ℕ} {f : Facts} {n : ℕ} {w₀ o₀ w o : L
   acting_returns {e} {r} k fn d ne x q = record {
     goes = λ P named at t h.
         let u = returns_one k (λ z. ne (d.0 ∙ z)) h in
-        acts (λ i x m. outcome_sort P x.env at (look x.env t) ∙ ap (by_sort P x.env at (look x.env t)) ((sort_gives {f = f} refl k).is P named x.env t h) ∙ ap (returning P) (u.only x.env))
+        acts (λ i x m. outcome_sort P x.env at (look x.env t) ∙ ap (by_sort P x.env at (look x.env t)) ((sort_gives b f n refl (eq-eqb (kind_of b n) 16 k)).is P named x.env t h) ∙ ap (returning P) (u.only x.env))
         (run (returned_as P) named.returned at u.given u.spells);
     remains = remains (run (returns_as f.returns) (λ v. refl) None (give_kid k fn d ne).tree (give_kid k fn d ne).spells) ready;
   }

@@ -85,42 +85,41 @@ test_kids {b} {n} E k (stands {ts = ts} i h) = under (subst (λ (j : ℕ). Shape
 sorted_by : (P : Program) (t : Term) (a b c : Bool) → is Return t ≡ a → is_named P t (text "__builtin_unreachable") ≡ b → is_halted P t ≡ c → sort_of P t ≡ sort_by a b c
 sorted_by P t a b c p q r = λ i. sort_by (p i) (q i) (r i)
 
-module _ {b : List ℕ} {f : Facts} {n k : ℕ} (read : k ≡ kind_of b n) where
-  pub sort_gives : k ≡ 16 → Sorted b f n Gives
-  sort_gives e = record {
-    is = λ P named E t h. sorted_by P (look E t) true _ _ (test_return P E h ∙ eq-eqb (kind_of b n) 16 (sym read ∙ e)) refl refl;
-    here = sym read ∙ e;
+module _ (b : List ℕ) (f : Facts) (n : ℕ) where
+  pub sort_gives : {r : Bool} → r ≡ eqb (kind_of b n) 16 → r ≡ true → Sorted b f n Gives
+  sort_gives er e = record {
+    is = λ P named E t h. sorted_by P (look E t) true _ _ (test_return P E h ∙ sym er ∙ e) refl refl;
+    here = eqb-true (kind_of b n) 16 (sym er ∙ e);
   }
 
-  pub sort_plain : (k ≡ 16 → ⊥) → (k ≡ 15 → ⊥) → Sorted b f n Plain
-  sort_plain r i = record {
+  pub sort_plain : {r i : Bool} → r ≡ eqb (kind_of b n) 16 → r ≡ false → i ≡ eqb (kind_of b n) 15 → i ≡ false → Sorted b f n Plain
+  sort_plain er r ei i = record {
     is = λ P named E t h.
-        let z : eqb (kind_of b n) 15 ≡ false = ne_eqb (kind_of b n) 15 (λ e. i (read ∙ e)) in
-        let u : (name : List ℕ) → is_named P (look E t) name ≡ false = λ name. test_named P E name h ∙ ap (λ (x : Bool). x && same (name_of P (ref_of b n)) name) z in
+        let u : (name : List ℕ) → is_named P (look E t) name ≡ false = λ name. test_named P E name h ∙ ap (λ (x : Bool). x && same (name_of P (ref_of b n)) name) (sym ei ∙ i) in
         sorted_by P (look E t) false false false
-        (test_return P E h ∙ ne_eqb (kind_of b n) 16 (λ e. r (read ∙ e)))
+        (test_return P E h ∙ sym er ∙ r)
         (u (text "__builtin_unreachable"))
         (ap (λ (x : Bool). x && eqb (count (kids (look E t))) 1 && is Constant (kid 0 (kids (look E t)))) (u (text "__analysis_halted")));
     here = tt;
   }
 
-module _ (b : List ℕ) (f : Facts) (n : ℕ) {k : ℕ} (read : k ≡ kind_of b n) (intrinsic : k ≡ 15) {x : ℕ} (named : (x ≡ ref_of b n) × (x < 65536)) where
+module _ (b : List ℕ) (f : Facts) (n : ℕ) {i : Bool} (ei : i ≡ eqb (kind_of b n) 15) (intrinsic : i ≡ true) {x : ℕ} (reads : (x ≡ ref_of b n) × (x < 65536)) where
   kind_is : kind_of b n ≡ 15
-  kind_is = sym read ∙ intrinsic
+  kind_is = eqb-true (kind_of b n) 15 (sym ei ∙ intrinsic)
 
   module _ (P : Program) (told : Named f P) (E : Env) {t : Tree} (h : Stands b n t) where
     no_return : is Return (look E t) ≡ false
     no_return = test_return P E h ∙ ap (λ (j : ℕ). eqb j 16) kind_is
 
     name_is : (name : List ℕ) → is_named P (look E t) name ≡ same (name_of P x) name
-    name_is name = test_named P E name h ∙ ap (λ (j : ℕ). eqb j 15 && same (name_of P (ref_of b n)) name) kind_is ∙ ap (λ (j : ℕ). same (name_of P j) name) (sym named.0)
+    name_is name = test_named P E name h ∙ ap (λ (j : ℕ). eqb j 15 && same (name_of P (ref_of b n)) name) kind_is ∙ ap (λ (j : ℕ). same (name_of P j) name) (sym reads.0)
 
     unreachable_is : is_named P (look E t) (text "__builtin_unreachable") ≡ is_name f.unreachable x
-    unreachable_is = name_is (text "__builtin_unreachable") ∙ told.unreachable x named.1
+    unreachable_is = name_is (text "__builtin_unreachable") ∙ told.unreachable x reads.1
 
     halted_is : is_halted P (look E t) ≡ (is_name f.halted x && (eqb (span_of b n) 2 && eqb (kind_of b (n + 1)) 0))
     halted_is =
-        ap (λ (z : Bool). z && eqb (count (kids (look E t))) 1 && is Constant (kid 0 (kids (look E t)))) (name_is (text "__analysis_halted") ∙ told.halted x named.1)
+        ap (λ (z : Bool). z && eqb (count (kids (look E t))) 1 && is Constant (kid 0 (kids (look E t)))) (name_is (text "__analysis_halted") ∙ told.halted x reads.1)
         ∙ grouped (is_name f.halted x) (eqb (count (kids (look E t))) 1) (is Constant (kid 0 (kids (look E t))))
         ∙ ap (λ (z : Bool). is_name f.halted x && z) (test_kids E kind_is h)
       where
@@ -128,37 +127,37 @@ module _ (b : List ℕ) (f : Facts) (n : ℕ) {k : ℕ} (read : k ≡ kind_of b 
         grouped true v w = refl
         grouped false v w = refl
 
-  pub sort_unreachable : is_name f.unreachable x ≡ true → Sorted b f n Unreachable
-  sort_unreachable e = record {
-    is = λ P told E t h. sorted_by P (look E t) false true _ (no_return P told E h) (unreachable_is P told E h ∙ e) refl;
+  pub sort_unreachable : {u : Bool} → u ≡ is_name f.unreachable x → u ≡ true → Sorted b f n Unreachable
+  sort_unreachable eu named = record {
+    is = λ P told E t h. sorted_by P (look E t) false true _ (no_return P told E h) (unreachable_is P told E h ∙ sym eu ∙ named) refl;
     here = tt;
   }
 
-  module _ (ne : is_name f.unreachable x ≡ false) where
+  module _ {u : Bool} (eu : u ≡ is_name f.unreachable x) (no : u ≡ false) where
     sorts : (c : Bool) {r : Sort} → sort_by false false c ≡ r → (is_name f.halted x && (eqb (span_of b n) 2 && eqb (kind_of b (n + 1)) 0)) ≡ c
         → (P : Program) → Named f P → (E : Env) (t : Tree) → Stands b n t → sort_of P (look E t) ≡ r
-    sorts c s e P told E t h = sorted_by P (look E t) false false c (no_return P told E h) (unreachable_is P told E h ∙ ne) (halted_is P told E h ∙ e) ∙ s
+    sorts c s e P told E t h = sorted_by P (look E t) false false c (no_return P told E h) (unreachable_is P told E h ∙ sym eu ∙ no) (halted_is P told E h ∙ e) ∙ s
 
-    pub sort_other : is_name f.halted x ≡ false → Sorted b f n Plain
-    sort_other nh = record { is = sorts false refl (ap (λ (z : Bool). z && (eqb (span_of b n) 2 && eqb (kind_of b (n + 1)) 0)) nh); here = tt }
+    pub sort_other : {m : Bool} → m ≡ is_name f.halted x → m ≡ false → Sorted b f n Plain
+    sort_other em other = record { is = sorts false refl (ap (λ (z : Bool). z && (eqb (span_of b n) 2 && eqb (kind_of b (n + 1)) 0)) (sym em ∙ other)); here = tt }
 
-    module _ (eh : is_name f.halted x ≡ true) {s : ℕ} (spans : (s ≡ span_of b n) × (s < 4294967296)) where
+    module _ {m : Bool} (em : m ≡ is_name f.halted x) (halts : m ≡ true) {s : ℕ} (spans : (s ≡ span_of b n) × (s < 4294967296)) where
       halted_by : (is_name f.halted x && (eqb (span_of b n) 2 && eqb (kind_of b (n + 1)) 0)) ≡ (eqb s 2 && eqb (kind_of b (n + 1)) 0)
-      halted_by = ap (λ (z : Bool). z && (eqb (span_of b n) 2 && eqb (kind_of b (n + 1)) 0)) eh ∙ ap (λ (j : ℕ). eqb j 2 && eqb (kind_of b (n + 1)) 0) (sym spans.0)
+      halted_by = ap (λ (z : Bool). z && (eqb (span_of b n) 2 && eqb (kind_of b (n + 1)) 0)) (sym em ∙ halts) ∙ ap (λ (j : ℕ). eqb j 2 && eqb (kind_of b (n + 1)) 0) (sym spans.0)
 
       pub sort_many : (s ≡ 2 → ⊥) → Sorted b f n Plain
       sort_many ns = record { is = sorts false refl (halted_by ∙ ap (λ (z : Bool). z && eqb (kind_of b (n + 1)) 0) (ne_eqb s 2 ns)); here = tt }
 
-      module _ (two : s ≡ 2) {j : ℕ} (first : j ≡ kind_of b (n + 1)) where
-        pub sort_unlike : (j ≡ 0 → ⊥) → Sorted b f n Plain
-        sort_unlike nj = record {
-          is = sorts false refl (halted_by ∙ ap (λ (z : Bool). eqb s 2 && z) (ne_eqb (kind_of b (n + 1)) 0 (λ e. nj (first ∙ e))) ∙ and-false (eqb s 2));
+      module _ (two : s ≡ 2) {c : Bool} (first : c ≡ eqb (kind_of b (n + 1)) 0) where
+        pub sort_unlike : c ≡ false → Sorted b f n Plain
+        sort_unlike nc = record {
+          is = sorts false refl (halted_by ∙ ap (λ (z : Bool). eqb s 2 && z) (sym first ∙ nc) ∙ and-false (eqb s 2));
           here = tt;
         }
 
-        pub sort_halts : Fine b n → j ≡ 0 → Sorted b f n Halts
-        sort_halts fn ej = record {
-          is = sorts true refl (halted_by ∙ ap (λ (z : Bool). eqb s 2 && z) (eq-eqb (kind_of b (n + 1)) 0 (sym first ∙ ej)) ∙ ap (λ (z : Bool). z && true) (eq-eqb s 2 two));
+        pub sort_halts : Fine b n → c ≡ true → Sorted b f n Halts
+        sort_halts fn ec = record {
+          is = sorts true refl (halted_by ∙ ap (λ (z : Bool). eqb s 2 && z) (sym first ∙ ec) ∙ ap (λ (z : Bool). z && true) (eq-eqb s 2 two));
           here = (kid_here (λ e. omega (arith, e, spans.0, two)) (intrinsic_kids kind_is fn refl), kind_is, sym spans.0 ∙ two);
         }
 

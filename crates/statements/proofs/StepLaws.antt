@@ -23,41 +23,39 @@ use Rattle.workspace.specs.Note.{names, names_bytes, pending_in, noted, taken, F
 use Rattle.workspace.specs.Registers.{word_at}
 use Rattle.workspace.specs.Post.{SetsWord}
 use Rattle.stream.specs.declared.NotePiece.{NotePiece}
-use Rattle.stream.specs.declared.NotePiece.TheVariants.{NotFollowed}
-use Rattle.stream.specs.declared.NotePiece.TheVariants as piece
+use Rattle.stream.specs.declared.NotePiece.TheVariants.{Nothing, Fields, Written, Unknown, NotFollowed}
 use Rattle.stream.specs.declared.StepPiece.{StepPiece}
 use Rattle.stream.specs.Stream.{Sent}
-use Rattle.stream.specs.Pieces.{taken_count, taken_names, step_bytes, note_from, step_from}
+use Rattle.stream.specs.Pieces.{taken_count, taken_names, step_bytes, note_of, note_from, step_from}
 use Rattle.stream.proofs.FieldLaws.{step_sent, taken_back}
 use Rattle.stream.proofs.StepLaws.{length_names}
-use Rattle.hosting.specs.declared.Note.{Note}
-use Rattle.hosting.specs.declared.Note.TheVariants.{Nothing, Fields, Written, Unknown}
 use Rattle.hosting.specs.declared.Did.{Did}
-use Rattle.hosting.specs.Ending.{note_of, did_of}
+use Rattle.hosting.specs.Ending.{did_of}
 use Rattle.hosting.specs.Held.{with_recorded}
 use Rattle.operations.specs.Registers.{counts_in, how_in}
 use Rattle.operations.proofs.Registers.{recorded_word, second_word, recorded_set, recorded_how}
 use Rattle.statements.specs.declared.steps.Site.{Site}
-use Rattle.statements.specs.Steps.{own_piece, piece_of, step_as}
+use Rattle.statements.specs.Steps.{piece_of, step_as}
 use Rattle.statements.specs.Post.{Sends}
 
 -- ---- which note a step tells
 
 -- the pending one, where it has none of its own
-left_told : (note : Note) (p : Pending) → note ≡ Nothing → noted p ≡ true → statements.note_of (note_of note) p ≡ not_followed (taken p)
+left_told : (note : NotePiece) (p : Pending) → note ≡ Nothing → noted p ≡ true → statements.note_of (note_of note []) p ≡ not_followed (taken p)
 left_told note None e h = absurd (true≢false (sym h))
-left_told note (Some xs) e h = ap (λ (z : Note). statements.note_of (note_of z) (Some xs)) e
+left_told note (Some xs) e h = ap (λ (z : NotePiece). statements.note_of (note_of z []) (Some xs)) e
 
-none_told : (note : Note) (p : Pending) → note ≡ Nothing → noted p ≡ false → statements.note_of (note_of note) p ≡ no_note
-none_told note None e h = ap (λ (z : Note). statements.note_of (note_of z) None) e
+none_told : (note : NotePiece) (p : Pending) → note ≡ Nothing → noted p ≡ false → statements.note_of (note_of note []) p ≡ no_note
+none_told note None e h = ap (λ (z : NotePiece). statements.note_of (note_of z []) None) e
 none_told note (Some xs) e h = absurd (true≢false h)
 
-own_told : (note : Note) (names : List ℕ) (p : Pending) → (note ≡ Nothing → ⊥) → note_from (own_piece note) names ≡ note_fields (statements.note_of (note_of note) p)
+own_told : (note : NotePiece) (p : Pending) → (note ≡ Nothing → ⊥) → note_from note [] ≡ note_fields (statements.note_of (note_of note []) p)
 unfolding note_from
-own_told Nothing names p ne = absurd (ne refl)
-own_told (Fields a n) names p ne = refl
-own_told (Written a v) names p ne = refl
-own_told Unknown names p ne = refl
+own_told Nothing p ne = absurd (ne refl)
+own_told (Fields a n) p ne = refl
+own_told (Written a v) p ne = refl
+own_told Unknown p ne = refl
+own_told NotFollowed p ne = refl
 
 -- ---- the names in bytes
 
@@ -96,19 +94,18 @@ left_fields xs l h = ap (λ (ys : List ℕ). note_fields (not_followed ys)) (nam
 
 module _ {on : Bool} {out out' : List ℕ} {at r : ℕ} (site : Site) (did : Did) (s : StepPiece) (p : Pending) (made : s ≡ piece_of site did) where
   -- a piece with a note has the step's fields where the note has
-  sent_with : (n : NotePiece) (names : List ℕ) → note_from n names ≡ note_fields (statements.note_of (note_of did.note) p) → Sent on out at (step_bytes (step_from s n names)) out' r
+  sent_with : (n : NotePiece) (names : List ℕ) → note_from n names ≡ note_fields (statements.note_of (note_of did.note []) p) → Sent on out at (step_bytes (step_from s n names)) out' r
       → Sent on out at (step_bytes (step_fields (step_as site (did_of did) p))) out' r
   sent_with n names e t =
       step_sent (piece_of site did) n names (step_as site (did_of did) p) (subst (λ (z : StepPiece). Sent on out at (step_bytes (step_from z n names)) out' r) made t) refl refl refl refl e
 
-  pub sent_own : (names : List ℕ) {n : NotePiece} → (did.note ≡ Nothing → ⊥) → n ≡ own_piece did.note → Sent on out at (step_bytes (step_from s n names)) out' r
-      → Sent on out at (step_bytes (step_fields (step_as site (did_of did) p))) out' r
-  sent_own names {n} ne e t = sent_with n names (ap (λ (z : NotePiece). note_from z names) e ∙ own_told did.note names p ne) t
+  pub sent_own : (did.note ≡ Nothing → ⊥) → Sent on out at (step_bytes (step_from s did.note [])) out' r → Sent on out at (step_bytes (step_fields (step_as site (did_of did) p))) out' r
+  sent_own ne t = sent_with did.note [] (own_told did.note p ne) t
 
   module _ (none : did.note ≡ Nothing) {b : Bool} (has : b ≡ noted p) where
-    pub sent_plain : b ≡ false → Sent on out at (step_bytes (step_from s piece.Nothing [])) out' r → Sent on out at (step_bytes (step_fields (step_as site (did_of did) p))) out' r
+    pub sent_plain : b ≡ false → Sent on out at (step_bytes (step_from s Nothing [])) out' r → Sent on out at (step_bytes (step_fields (step_as site (did_of did) p))) out' r
     unfolding note_from
-    sent_plain f t = sent_with piece.Nothing [] (ap note_fields (sym (none_told did.note p none (sym has ∙ f)))) t
+    sent_plain f t = sent_with Nothing [] (ap note_fields (sym (none_told did.note p none (sym has ∙ f)))) t
 
     pub sent_left : {names : List ℕ} → b ≡ true → names ≡ names_bytes (taken p) → Few p → Each (Below 2) (taken p) → Sent on out at (step_bytes (step_from s NotFollowed names)) out' r
         → Sent on out at (step_bytes (step_fields (step_as site (did_of did) p))) out' r

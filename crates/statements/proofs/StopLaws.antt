@@ -16,7 +16,7 @@ use Rattle.stream.proofs.FieldLaws.{stop_body_lem}
 use Rattle.hosting.specs.declared.Short.{Short}
 use Rattle.hosting.specs.declared.Short.TheVariants.{Full, Why}
 use Rattle.hosting.specs.declared.Stop.{Stop}
-use Rattle.hosting.specs.declared.Stop.TheVariants.{ReturnedNothing, Returned, Steps, Unknown, NoBlock, NoBlocks, NoReturn, Halted}
+use Rattle.hosting.specs.declared.Stop.TheVariants.{Returned, Steps, Unknown, NoBlock, NoBlocks, NoReturn, Halted}
 use Rattle.hosting.specs.Ending.{Ending, ended, short}
 use Rattle.hosting.specs.Walking.{stop_end}
 use Rattle.statements.specs.Reasons.{stopping, unknown_piece}
@@ -35,34 +35,16 @@ tells_as {limit} {p = p} {q = q} s₀ e ep d f = record {
     inner : {a b : statements.Stop} → ended a ≡ ended b → a ≡ b
     inner h = cc
 
-module _ {limit : ℕ} {stop : Stop} {p : StopPiece} where
-  pub tells_nothing : {v : Val} → stop ≡ ReturnedNothing → v ≡ no_val → p ≡ stopping kind.ReturnedNothing None 0 v → Tells limit stop p
-  unfolding stop_from
-  tells_nothing e z h = tells_as (statements.Returned None) e (h ∙ ap (stopping kind.ReturnedNothing None 0) z) refl refl
-
-  pub tells_value : {u : Val} → stop ≡ Returned u → p ≡ stopping kind.Returned None 0 u → Tells limit stop p
-  unfolding stop_from
-  tells_value {u} e h = tells_as (statements.Returned (Some u)) e h refl refl
-
-  pub tells_steps : {v : Val} → stop ≡ Steps → v ≡ no_val → p ≡ stopping kind.Steps None limit v → Tells limit stop p
-  unfolding stop_from
-  tells_steps e z h = tells_as (statements.Steps limit) e (h ∙ ap (stopping kind.Steps None limit) z) refl refl
-
-  pub tells_block : {v : Val} {b : ℕ} → stop ≡ NoBlock b → v ≡ no_val → p ≡ stopping kind.NoBlock None b v → Tells limit stop p
-  unfolding stop_from
-  tells_block {b = b} e z h = tells_as (statements.NoBlock b) e (h ∙ ap (stopping kind.NoBlock None b) z) refl refl
-
-  pub tells_blocks : {v : Val} → stop ≡ NoBlocks → v ≡ no_val → p ≡ stopping kind.NoBlocks None 0 v → Tells limit stop p
-  unfolding stop_from
-  tells_blocks e z h = tells_as statements.NoBlocks e (h ∙ ap (stopping kind.NoBlocks None 0) z) refl refl
-
-  pub tells_return : {m : Option ℕ} → stop ≡ NoReturn m → p ≡ stopping kind.NoReturn m 0 no_val → Tells limit stop p
-  unfolding stop_from
-  tells_return {m} e h = tells_as (statements.NoReturn m) e h refl refl
-
-  pub tells_halted : {m : Option ℕ} {t : ℕ} → stop ≡ Halted m t → p ≡ stopping kind.Halted m t no_val → Tells limit stop p
-  unfolding stop_from
-  tells_halted {m} {t} e h = tells_as (statements.Halted m t) e h refl refl
+-- the piece of a stop, by the stop
+abbrev pub piece_by : ℕ → Stop → StopPiece
+piece_by limit (Returned None) = stopping kind.ReturnedNothing None 0 no_val
+piece_by limit (Returned (Some v)) = stopping kind.Returned None 0 v
+piece_by limit Steps = stopping kind.Steps None limit no_val
+piece_by limit (Unknown m s) = unknown_piece m s
+piece_by limit (NoBlock b) = stopping kind.NoBlock None b no_val
+piece_by limit NoBlocks = stopping kind.NoBlocks None 0 no_val
+piece_by limit (NoReturn m) = stopping kind.NoReturn m 0 no_val
+piece_by limit (Halted m t) = stopping kind.Halted m t no_val
 
 -- ---- the reasons
 
@@ -82,6 +64,18 @@ reason_fields m ByZero n = refl
 no_end : {s : statements.Stop} → short None ≡ ended s → ⊥
 no_end h = let z : ◌≡◌ {A = ℕ} 0 1 = cc in omega arith
 
-pub tells_unknown : {limit : ℕ} {stop : Stop} {p : StopPiece} {m : Option ℕ} (s : Short) → stop ≡ Unknown m s → p ≡ unknown_piece m s → Tells limit stop p
-tells_unknown {limit} Full e h = record { bytes = λ s d. absurd (no_end (ap (stop_end limit) (sym e) ∙ d)) }
-tells_unknown {m = m} (Why r n) e h = tells_as (statements.Unknown m (why_of r n)) e h refl (reason_fields m r n)
+by_stop : (limit : ℕ) (stop : Stop) {p : StopPiece} → p ≡ piece_by limit stop → Tells limit stop p
+unfolding stop_from
+by_stop limit (Returned None) e = tells_as (statements.Returned None) refl e refl refl
+by_stop limit (Returned (Some v)) e = tells_as (statements.Returned (Some v)) refl e refl refl
+by_stop limit Steps e = tells_as (statements.Steps limit) refl e refl refl
+by_stop limit (Unknown m Full) e = record { bytes = λ s d. absurd (no_end d) }
+by_stop limit (Unknown m (Why r n)) e = tells_as (statements.Unknown m (why_of r n)) refl e refl (reason_fields m r n)
+by_stop limit (NoBlock b) e = tells_as (statements.NoBlock b) refl e refl refl
+by_stop limit NoBlocks e = tells_as statements.NoBlocks refl e refl refl
+by_stop limit (NoReturn m) e = tells_as (statements.NoReturn m) refl e refl refl
+by_stop limit (Halted m t) e = tells_as (statements.Halted m t) refl e refl refl
+
+-- a piece of the stop that was found
+pub tells_stop : {limit : ℕ} {stop : Stop} {p : StopPiece} → p ≡ piece_by limit stop → Tells limit stop p
+tells_stop {limit} {stop} e = by_stop limit stop e

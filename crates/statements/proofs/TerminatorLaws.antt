@@ -19,7 +19,7 @@ use Rattle.index.specs.declared.blocks.Place.{Place}
 use Rattle.index.specs.declared.blocks.Terminator.{Terminator}
 use Rattle.index.specs.declared.blocks.Terminator.TheVariants.{Return, Goto, Branch, Switch}
 use Rattle.index.specs.Blocks.{terminator_as, cases_in, Ends}
-use Rattle.hosting.specs.declared.Stop.TheVariants.{ReturnedNothing}
+use Rattle.hosting.specs.declared.Stop.TheVariants.{Returned}
 use Rattle.hosting.specs.declared.Short.{Short}
 use Rattle.hosting.specs.declared.Stop.{Stop}
 use Rattle.hosting.specs.Stands.{Stands, stands}
@@ -134,7 +134,7 @@ module _ {b s r ss blocks : List ℕ} {p : Place} {t : Terminator} (ends : Ends 
     outside = out;
   }
 
-  pub terminates_return : {w o : List ℕ} → t ≡ Return → Terminates b s r ss blocks p w o (Break ReturnedNothing) w o
+  pub terminates_return : {w o : List ℕ} → t ≡ Return → Terminates b s r ss blocks p w o (Break (Returned None)) w o
   unfolding walk.terminate
   terminates_return e = led_by e tt (λ limit. done_goes (λ x. walk.stops (statements.Returned None)) (λ i x h. refl))
 

@@ -1,11 +1,9 @@
-// What a statement of a block does, and its step.
+// What a statement of a block does, and its step. (`ReadyIn` is a clause, since the workspace changes, and so is `Fine`: it is of a node's number in a body.)
 ghost use Rattle.std.specs.Prelude.{◌≡◌, ◌+◌, ◌*◌, ◌≤◌, length};
 ghost use Rattle.files.specs.Nodes.{kind_of};
 ghost use Rattle.workspace.specs.View.{Fit};
-ghost use Rattle.hosting.specs.Scene.{given};
+ghost use Rattle.hosting.specs.Scene.{given_in};
 ghost use Rattle.hosting.specs.Stands.{Fine};
-ghost use Rattle.definition.specs.Act.{no_note};
-ghost use Rattle.definition.specs.Evaluate.{did};
 ghost use Rattle.hosting.specs.Routine.{returns_as, is_name};
 ghost use Rattle.hosting.specs.Ending.{did_of};
 ghost use Rattle.hosting.specs.Runs.{Kept};
@@ -19,12 +17,13 @@ use crate::Bodies;
 use crate::steps::{Site, send};
 use files::kinds::Kind;
 use files::nodes;
-use hosting::{Did, Facts, Note, Reads, Short, Stop};
+use hosting::{Did, Facts, Reads, Short, Stop};
 use operations::results::RECORDED;
 use value::{Ty, Val};
 use workspace::registers;
 
-// What a statement's root did: something, or it ends the run, with no value or with one, or as an Intrinsic does.
+// What a statement's root did: something, or it ends the run, with no value or with one, or as an Intrinsic does. (One case with an option was tried: the value
+// then lies where `Did` has a name, and a unit of the counting loop takes 280 instructions in place of 254.)
 #[derive(Clone, Copy)]
 pub enum Acts {
     Does(Did),
@@ -51,6 +50,7 @@ fn is_name(one: Option<usize>, name: usize) -> bool
 }
 
 // A Return, then the two Intrinsics that end a run; `__analysis_halted` has exactly one argument, a Constant.
+#[tactic(auto, using(crate::proofs::SortLaws::sort_unreachable, crate::proofs::SortLaws::sort_other, crate::proofs::SortLaws::sort_many, crate::proofs::SortLaws::sort_unlike))]
 fn sort_of(nodes: &[u8], facts: Facts, n: usize) -> Sort
     requires { Fine nodes.now n }
     ensures { Sorted nodes.now facts n result }
@@ -81,15 +81,13 @@ fn sort_of(nodes: &[u8], facts: Facts, n: usize) -> Sort
 fn returned(returns: Option<Ty>, v: Val) -> Val
     ensures { result ≡ returns_as returns v }
 {
-    match returns {
-        Some(ty) => v.cast(ty),
-        None => v,
-    }
+    returns.map_or(v, |ty| v.cast(ty))
 }
 
 // `return;` or `return value;`.
+#[tactic(auto, using(crate::proofs::OutcomeLaws::give_kid))]
 fn give(reads: &Reads, ws: &mut [u8], out: &mut [u8], facts: Facts, n: usize) -> Result<Acts, Short>
-    requires ready_in { ReadyIn (given reads.now.nodes.now reads.now.symbols.now reads.now.regions.now) ws.old }
+    requires ready_in { ReadyIn (given_in reads.now) ws.old }
     requires fine { (Fine reads.now.nodes.now n) × (kind_of reads.now.nodes.now n ≡ 16) }
     ensures { Acting reads.now.nodes.now reads.now.symbols.now reads.now.regions.now facts n ws.old out.old result ws.new out.new }
 {
@@ -101,8 +99,9 @@ fn give(reads: &Reads, ws: &mut [u8], out: &mut [u8], facts: Facts, n: usize) ->
 }
 
 // What the root of a statement does.
+#[tactic(auto, using(crate::proofs::OutcomeLaws::gives_kind, crate::proofs::OutcomeLaws::halts_room))]
 fn act(reads: &Reads, ws: &mut [u8], out: &mut [u8], facts: Facts, n: usize) -> Result<Acts, Short>
-    requires ready_in { ReadyIn (given reads.now.nodes.now reads.now.symbols.now reads.now.regions.now) ws.old }
+    requires ready_in { ReadyIn (given_in reads.now) ws.old }
     requires fine { Fine reads.now.nodes.now n }
     ensures { Acting reads.now.nodes.now reads.now.symbols.now reads.now.regions.now facts n ws.old out.old result ws.new out.new }
 {
@@ -117,23 +116,13 @@ fn act(reads: &Reads, ws: &mut [u8], out: &mut [u8], facts: Facts, n: usize) -> 
     }
 }
 
-// What a statement that stops the run did: nothing.
-fn nothing() -> Did
-    ensures { did_of result ≡ did no_note }
-{
-    Did {
-        wrote: None,
-        note: Note::Nothing,
-    }
-}
-
-// What its step tells.
+// What its step tells. (A statement that stops the run did nothing.)
 fn did_of(o: Result<Acts, Short>) -> Did
     ensures { did_of result ≡ did_in o }
 {
     match o {
         Ok(Acts::Does(d)) => d,
-        _ => nothing(),
+        _ => Did::default(),
     }
 }
 
@@ -143,8 +132,8 @@ fn halt_of(address: Option<u64>, o: Result<Acts, Short>) -> Option<Stop>
 {
     match o {
         Ok(Acts::Does(_)) => None,
-        Ok(Acts::Leaves) => Some(Stop::ReturnedNothing),
-        Ok(Acts::Gives(v)) => Some(Stop::Returned(v)),
+        Ok(Acts::Leaves) => Some(Stop::Returned(None)),
+        Ok(Acts::Gives(v)) => Some(Stop::Returned(Some(v))),
         Ok(Acts::Strays) => Some(Stop::NoReturn(address)),
         Ok(Acts::Halts(target)) => Some(Stop::Halted(address, target)),
         Err(s) => Some(Stop::Unknown(address, s)),
@@ -168,6 +157,7 @@ fn recorded(ws: &mut [u8], out: &mut [u8], site: Site, did: Did)
 }
 
 // The step of what was done, unless the workspace has no room left.
+#[tactic(auto, using(crate::proofs::StatementLaws::conclude_full, crate::proofs::StatementLaws::conclude_sent, crate::proofs::StatementLaws::kept_fit))]
 fn conclude(ws: &mut [u8], out: &mut [u8], site: Site, o: Result<Acts, Short>) -> Option<Stop>
     requires { Kept (acts_end site.address o) (Fit ws.old (counts_in ws.old).stored) }
     ensures { Concludes site ws.old out.old o result ws.new out.new }
@@ -182,6 +172,7 @@ fn conclude(ws: &mut [u8], out: &mut [u8], site: Site, o: Result<Acts, Short>) -
 }
 
 // Statement k, of a block.
+#[tactic(auto, using(crate::proofs::StatementLaws::kept_acts, crate::proofs::StatementLaws::root_fine))]
 pub fn statement(
     bodies: &Bodies,
     ws: &mut [u8],
@@ -190,7 +181,7 @@ pub fn statement(
     block: usize,
     k: usize,
 ) -> Option<Stop>
-    requires ready_in { ReadyIn (given bodies.now.reads.nodes.now bodies.now.reads.symbols.now bodies.now.reads.regions.now) ws.old }
+    requires ready_in { ReadyIn (given_in bodies.now.reads) ws.old }
     requires has_statement { (k * 13 + 13 ≤ length bodies.now.statements.now) × RootsOf bodies.now.reads.nodes.now bodies.now.statements.now }
     ensures { RunsStatement bodies.now.reads.nodes.now bodies.now.reads.symbols.now bodies.now.reads.regions.now bodies.now.statements.now facts block k ws.old out.old result ws.new out.new }
 {

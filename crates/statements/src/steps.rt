@@ -7,9 +7,9 @@ ghost use Rattle.stream.specs.Stream.{Sent};
 ghost use Rattle.stream.specs.Pieces.{step_bytes};
 ghost use Rattle.hosting.specs.Ending.{did_of};
 ghost use Rattle.operations.specs.Registers.{how_in};
-ghost use Rattle.statements.specs.Steps.{own_piece, piece_of, step_as};
+ghost use Rattle.statements.specs.Steps.{piece_of, step_as};
 
-use hosting::{Did, Note};
+use hosting::Did;
 use operations::results::SECOND;
 use stream::{NotePiece, StepPiece};
 use workspace::registers;
@@ -22,18 +22,7 @@ pub struct Site {
     pub statement: usize,
 }
 
-// The note that a statement makes itself.
-fn own_note(note: Note) -> NotePiece
-    ensures { result ≡ own_piece note }
-{
-    match note {
-        Note::Nothing => NotePiece::Nothing,
-        Note::Fields(address, count) => NotePiece::Fields(address, count),
-        Note::Written(address, v) => NotePiece::Written(address, v),
-        Note::Unknown => NotePiece::Unknown,
-    }
-}
-
+// What a step tells beside its note. (No `From`: it is one value of two, and of another crate.)
 fn piece(site: Site, did: Did) -> StepPiece
     ensures { result ≡ piece_of site did }
 {
@@ -45,7 +34,8 @@ fn piece(site: Site, did: Did) -> StepPiece
     }
 }
 
-// The step of a statement that did so much, with the pending note: the cursor after it. The first pass writes it.
+// The step of a statement that did so much, with the pending note: the cursor after it. The first pass writes it. (Where it is and what it did come from two
+// hands, the walk's place and its root.)
 pub fn send(ws: &[u8], out: &mut [u8], site: Site, did: Did, at: u64) -> u64
     requires { (workspace_size ≤ length ws.now) × Few (pending_in (note_part ws.now)) }
     ensures { Sent (not (how_in ws.now).second) out.old at (step_bytes (step_fields (step_as site (did_of did) (pending_in (note_part ws.now))))) out.new result }
@@ -53,13 +43,13 @@ pub fn send(ws: &[u8], out: &mut [u8], site: Site, did: Did, at: u64) -> u64
     let on = registers::word(ws, SECOND) == 0;
     let s = piece(site, did);
     match did.note {
-        Note::Nothing => {
+        NotePiece::Nothing => {
             if workspace::note::has_note(ws) {
                 let names = workspace::note::names(ws);
                 return stream::step(out, at, on, s, NotePiece::NotFollowed, names);
             }
             stream::plain_step(out, at, on, s)
         }
-        note => stream::noted_step(out, at, on, s, own_note(note)),
+        note => stream::noted_step(out, at, on, s, note),
     }
 }

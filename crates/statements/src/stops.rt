@@ -1,6 +1,5 @@
 // Why a run stopped, in the record's fields.
-ghost use Rattle.std.specs.Prelude.{◌≡◌, None};
-ghost use Rattle.definition.specs.Fields.{no_val};
+ghost use Rattle.std.specs.Prelude.{◌≡◌};
 ghost use Rattle.statements.specs.Telling.{Tells};
 ghost use Rattle.statements.specs.Reasons.{stopping, named, unknown_piece};
 
@@ -8,24 +7,9 @@ use hosting::{Short, Stop};
 use stream::{Kind, Reason, StopPiece};
 use value::Val;
 
-// A stop without an address.
-fn plain(kind: Kind, number: u64, value: Val) -> StopPiece
-    ensures { result ≡ stopping kind None number value }
-{
-    StopPiece {
-        kind,
-        reason: None,
-        address: None,
-        number,
-        node: 0,
-        name: 0,
-        value,
-    }
-}
-
-// A stop at an address.
-fn located(kind: Kind, address: Option<u64>, number: u64) -> StopPiece
-    ensures { result ≡ stopping kind address number no_val }
+// A stop without a reason.
+fn stopping(kind: Kind, address: Option<u64>, number: u64, value: Val) -> StopPiece
+    ensures { result ≡ stopping kind address number value }
 {
     StopPiece {
         kind,
@@ -34,7 +18,7 @@ fn located(kind: Kind, address: Option<u64>, number: u64) -> StopPiece
         number,
         node: 0,
         name: 0,
-        value: stream::no_value(),
+        value,
     }
 }
 
@@ -55,32 +39,31 @@ fn unknown(address: Option<u64>, short: Short) -> StopPiece
     ensures { result ≡ unknown_piece address short }
 {
     let Short::Why(reason, n) = short else {
-        return located(Kind::Unknown, address, 0);
+        return stopping(Kind::Unknown, address, 0, stream::no_value());
     };
     let (number, (node, name)) = named(reason, n);
     StopPiece {
-        kind: Kind::Unknown,
         reason: Some(reason),
-        address,
-        number,
         node,
         name,
-        value: stream::no_value(),
+        ..stopping(Kind::Unknown, address, number, stream::no_value())
     }
 }
 
-// The stop of a run that had so many units.
+// The stop of a run that had so many units. (Beside the stop, of which only one case tells them.)
+#[tactic(auto, using(crate::proofs::StopLaws::tells_stop))]
 pub fn stop_piece(stop: Stop, limit: u64) -> StopPiece
     ensures { Tells limit stop result }
 {
+    let none = stream::no_value();
     match stop {
-        Stop::ReturnedNothing => plain(Kind::ReturnedNothing, 0, stream::no_value()),
-        Stop::Returned(v) => plain(Kind::Returned, 0, v),
-        Stop::Steps => plain(Kind::Steps, limit, stream::no_value()),
+        Stop::Returned(None) => stopping(Kind::ReturnedNothing, None, 0, none),
+        Stop::Returned(Some(v)) => stopping(Kind::Returned, None, 0, v),
+        Stop::Steps => stopping(Kind::Steps, None, limit, none),
         Stop::Unknown(at, short) => unknown(at, short),
-        Stop::NoBlock(b) => plain(Kind::NoBlock, b, stream::no_value()),
-        Stop::NoBlocks => plain(Kind::NoBlocks, 0, stream::no_value()),
-        Stop::NoReturn(at) => located(Kind::NoReturn, at, 0),
-        Stop::Halted(at, target) => located(Kind::Halted, at, target),
+        Stop::NoBlock(b) => stopping(Kind::NoBlock, None, b, none),
+        Stop::NoBlocks => stopping(Kind::NoBlocks, None, 0, none),
+        Stop::NoReturn(at) => stopping(Kind::NoReturn, at, 0, none),
+        Stop::Halted(at, target) => stopping(Kind::Halted, at, target, none),
     }
 }

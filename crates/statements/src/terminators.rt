@@ -1,10 +1,11 @@
-// Where a block's terminator leads.
+// Where a block's terminator leads. (`Dealt` and `Placing` are clauses: a ghost field of a `Place` cannot name the bodies, and of a struct of both each contract
+// would name the same bodies, through one field more.)
 ghost use Rattle.std.specs.Prelude.{◌≡◌, ◌+◌, ◌*◌, ◌≤◌, length};
 ghost use Rattle.files.specs.Program.{listed, case_at};
-ghost use Rattle.hosting.specs.Scene.{given};
+ghost use Rattle.hosting.specs.Scene.{given_in};
 ghost use Rattle.hosting.specs.Ending.{end_of};
 ghost use Rattle.operations.specs.Going.{ReadyIn};
-ghost use Rattle.statements.specs.Endings.{end_end, bind_end};
+ghost use Rattle.statements.specs.Endings.{end_end};
 ghost use Rattle.statements.specs.Placing.{Dealt, Placing};
 ghost use Rattle.statements.specs.Post.{branches, switches, LastIs, AddressIs, Leads, Terminates};
 
@@ -17,13 +18,13 @@ use value::Val;
 
 // Where the walk is: before a statement of a block, or, with none, about to enter it. (The option stands first, so that its tag, and no number, shares a word with
 // a tag of `ControlFlow`.)
-#[derive(Clone, Copy)]
+#[derive(Clone, Copy, Default)]
 pub struct Spot {
     pub statement: Option<usize>,
     pub block: usize,
 }
 
-// A Branch: a block for a value other than 0, else the next.
+// A Branch: a block for a value other than 0, else the next. (Its parameters are what the match on the terminator took apart.)
 fn branch_to(root: usize, taken: usize, next: usize, v: Val) -> Result<usize, Short>
     ensures { end_of result ≡ end_end (branches root taken next v) }
 {
@@ -34,6 +35,7 @@ fn branch_to(root: usize, taken: usize, next: usize, v: Val) -> Result<usize, Sh
 }
 
 // A Switch: the first case of the value, extended by its sign bit whatever its sign is. (The count is of the block's cases, behind which the next block stands.)
+#[tactic(auto, using(crate::proofs::LeadLaws::switch_unknown_lem, crate::proofs::LeadLaws::switch_told))]
 fn switch_to(blocks: &[u8], start: usize, count: usize, root: usize, v: Val) -> Result<usize, Short>
     requires { start + 24 + count * 12 ≤ length blocks.now }
     ensures { end_of result ≡ end_end (switches root (listed (case_at blocks.now (start + 24)) 0 count) v) }
@@ -45,52 +47,27 @@ fn switch_to(blocks: &[u8], start: usize, count: usize, root: usize, v: Val) -> 
     index::blocks::case_of(blocks, start, count, n).ok_or(Short::Why(Reason::NoCase, n))
 }
 
-// A Branch by what its value came to.
-fn taken(root: usize, taken: usize, next: usize, e: Result<Val, Short>) -> Result<usize, Short>
-    ensures { end_of result ≡ bind_end (branches root taken next) (end_of e) }
-{
-    branch_to(root, taken, next, e?)
-}
-
-// A Switch by what its value came to.
-fn chosen(
-    blocks: &[u8],
-    start: usize,
-    count: usize,
-    root: usize,
-    e: Result<Val, Short>,
-) -> Result<usize, Short>
-    requires { start + 24 + count * 12 ≤ length blocks.now }
-    ensures { end_of result ≡ bind_end (switches root (listed (case_at blocks.now (start + 24)) 0 count)) (end_of e) }
-{
-    switch_to(blocks, start, count, root, e?)
-}
-
 // The last statement's address.
+#[tactic(auto, using(crate::proofs::LeadLaws::last_none, crate::proofs::LeadLaws::last_some, crate::proofs::LeadLaws::last_inside))]
 fn last_address(bodies: &Bodies, place: Place) -> Option<u64>
     requires { Dealt bodies.now.statements.now bodies.now.blocks.now place }
     ensures { LastIs bodies.now.statements.now bodies.now.blocks.now place result }
 {
-    let count = index::blocks::statement_count(bodies.blocks, place.start);
-    if count == 0 {
-        return None;
-    }
-    let s = index::blocks::statement_at(bodies.statements, place.first + (count - 1));
-    s.address
+    let last = index::blocks::statement_count(bodies.blocks, place.start).checked_sub(1)?;
+    index::blocks::statement_at(bodies.statements, place.first + last).address
 }
 
 // A terminator without an address takes the last statement's.
+#[tactic(auto, using(crate::proofs::LeadLaws::address_is))]
 fn address_or(bodies: &Bodies, place: Place, address: Option<u64>) -> Option<u64>
     requires { Dealt bodies.now.statements.now bodies.now.blocks.now place }
     ensures { AddressIs bodies.now.statements.now bodies.now.blocks.now place address result }
 {
-    match address {
-        Some(a) => Some(a),
-        None => last_address(bodies, place),
-    }
+    address.or(last_address(bodies, place))
 }
 
 // A block comes next, or the run stops.
+#[tactic(auto, using(crate::proofs::LeadLaws::leads_to, crate::proofs::LeadLaws::leads_short))]
 fn lead_on(
     bodies: &Bodies,
     place: Place,
@@ -110,19 +87,20 @@ fn lead_on(
 }
 
 // The terminator of the block at a place.
+#[tactic(auto, using(crate::proofs::TerminatorLaws::switch_cases))]
 pub fn terminate(
     bodies: &Bodies,
     ws: &mut [u8],
     out: &mut [u8],
     place: Place,
 ) -> ControlFlow<Stop, Spot>
-    requires ready_in { ReadyIn (given bodies.now.reads.nodes.now bodies.now.reads.symbols.now bodies.now.reads.regions.now) ws.old }
+    requires ready_in { ReadyIn (given_in bodies.now.reads) ws.old }
     requires placing { Placing bodies.now.reads.nodes.now bodies.now.statements.now bodies.now.blocks.now place }
     ensures { Terminates bodies.now.reads.nodes.now bodies.now.reads.symbols.now bodies.now.reads.regions.now bodies.now.statements.now bodies.now.blocks.now place ws.old out.old result ws.new out.new }
 {
     let t = index::blocks::terminator_at(bodies.blocks, place.start);
     match t {
-        Terminator::Return => ControlFlow::Break(Stop::ReturnedNothing),
+        Terminator::Return => ControlFlow::Break(Stop::Returned(None)),
         Terminator::Goto(block) => ControlFlow::Continue(Spot {
             block,
             statement: None,
@@ -130,11 +108,12 @@ pub fn terminate(
         Terminator::Branch {
             address,
             root,
-            taken: yes,
+            taken,
             next,
         } => {
             let e = machine::eval(&bodies.reads, ws, out, root);
-            lead_on(bodies, place, address, taken(root, yes, next, e))
+            let lead = e.and_then(|v| branch_to(root, taken, next, v));
+            lead_on(bodies, place, address, lead)
         }
         Terminator::Switch {
             address,
@@ -142,8 +121,8 @@ pub fn terminate(
             count,
         } => {
             let e = machine::eval(&bodies.reads, ws, out, root);
-            let l = chosen(bodies.blocks, place.start, count, root, e);
-            lead_on(bodies, place, address, l)
+            let lead = e.and_then(|v| switch_to(bodies.blocks, place.start, count, root, v));
+            lead_on(bodies, place, address, lead)
         }
     }
 }

@@ -53,11 +53,12 @@ pub length_read : (address size count number : ℕ) → length (question_bytes (
 unfolding span_bytes
 length_read address size count number = sym (ap length (read_bytes address size count number)) ∙ omega (arith, length_le count number)
 
-pub span_stored : (s t u w : List ℕ) (at address size : ℕ) → t ≡ put_number s at 1 3 → u ≡ put_number t (at + 1) 8 address → w ≡ put_number u (at + 9) 1 size
+pub span_stored : (s t u w : List ℕ) (at k address size : ℕ) → k ≡ 3 → t ≡ put_number s at 1 k → u ≡ put_number t (at + 1) 8 address → w ≡ put_number u (at + 9) 1 size
     → w ≡ sets s at (span_bytes address size)
 unfolding put_number span_bytes
-span_stored s t u w at address size p q r =
-    two_stored (le 1 3 ++ le 8 address) (le 1 size) s u w at (at + 9) (two_stored (le 1 3) (le 8 address) s t u at (at + 1) p q refl) r refl
+span_stored s t u w at k address size e p q r =
+    two_stored (le 1 k ++ le 8 address) (le 1 size) s u w at (at + 9) (two_stored (le 1 k) (le 8 address) s t u at (at + 1) p q refl) r refl
+    ∙ ap (λ (c : ℕ). sets s at (le 1 c ++ le 8 address ++ le 1 size)) e
 
 pub read_stored : (s t u w : List ℕ) (at address size count number : ℕ) → t ≡ sets s at (span_bytes address size) → u ≡ put_number t (at + 10) 1 count
     → w ≡ sets u (at + 11) (le count number) → w ≡ sets s at (question_bytes (read_entry address size count number))
@@ -69,12 +70,13 @@ read_stored s t u w at address size count number p q r =
 
 -- ---- kind 4
 
-pub callee_stored : (s t u w x : List ℕ) (at name address depth : ℕ) → t ≡ put_number s at 1 4 → u ≡ put_number t (at + 1) 2 name
+pub callee_stored : (s t u w x : List ℕ) (at k name address depth : ℕ) → k ≡ 4 → t ≡ put_number s at 1 k → u ≡ put_number t (at + 1) 2 name
     → w ≡ put_number u (at + 3) 8 address → x ≡ put_number w (at + 11) 4 depth → x ≡ sets s at (callee_bytes name address depth)
 unfolding put_number callee_bytes
-callee_stored s t u w x at name address depth p q r e =
-    two_stored (le 1 4 ++ le 2 name ++ le 8 address) (le 4 depth) s w x at (at + 11)
-    (two_stored (le 1 4 ++ le 2 name) (le 8 address) s u w at (at + 3) (two_stored (le 1 4) (le 2 name) s t u at (at + 1) p q refl) r refl) e refl
+callee_stored s t u w x at k name address depth f p q r e =
+    two_stored (le 1 k ++ le 2 name ++ le 8 address) (le 4 depth) s w x at (at + 11)
+    (two_stored (le 1 k ++ le 2 name) (le 8 address) s u w at (at + 3) (two_stored (le 1 k) (le 2 name) s t u at (at + 1) p q refl) r refl) e refl
+    ∙ ap (λ (c : ℕ). sets s at (le 1 c ++ le 2 name ++ le 8 address ++ le 4 depth)) f
 
 pub length_call : (name address depth count : ℕ) (values : List ℕ) → 14 * count ≤ length values
     → length (call_bytes name address depth count (take (14 * count) values)) ≡ 17 + 14 * count

@@ -66,6 +66,18 @@ kind_stop Halted = stop.Halted None 0
 abbrev pub kind_number : Kind → ℕ
 kind_number k = (stop_fields (kind_stop k)).0
 
+-- the kind of a number
+abbrev pub kind_at : ℕ → Option Kind
+kind_at zero = Some Returned
+kind_at (suc zero) = Some ReturnedNothing
+kind_at (suc (suc zero)) = Some Steps
+kind_at (suc (suc (suc zero))) = Some Unknown
+kind_at (suc (suc (suc (suc zero)))) = Some NoBlock
+kind_at (suc (suc (suc (suc (suc zero))))) = Some NoBlocks
+kind_at (suc (suc (suc (suc (suc (suc zero)))))) = Some NoReturn
+kind_at (suc (suc (suc (suc (suc (suc (suc zero))))))) = Some Halted
+kind_at (suc (suc (suc (suc (suc (suc (suc (suc n)))))))) = None
+
 unfoldable pub stop_bytes : StopFields → List ℕ
 stop_bytes f = stop_format.write f
 
@@ -100,6 +112,9 @@ pairs_of o (n ∷ ns) = le 4 o ++ (le 4 n ++ pairs_of (o + n) ns)
 abbrev pub lengths_of : Lengths → List ℕ
 lengths_of l = stop_size ∷ counts_size ∷ l.steps ∷ l.variables ∷ l.memory ∷ l.questions ∷ []
 
--- where the last ends, which is the record's length
+-- where the last starts, and where it ends, which is the record's length
+abbrev pub questions_start : Lengths → ℕ
+questions_start l = steps_place + l.steps + l.variables + l.memory
+
 abbrev pub last_end : Lengths → ℕ
 last_end l = steps_place + l.steps + l.variables + l.memory + l.questions

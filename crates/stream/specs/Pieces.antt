@@ -1,16 +1,20 @@
 -- The bytes of a stream's pieces, from what the code is given. The formats are the definition's (document 01, "The record"). Assumes nothing.
-use Rattle.std.specs.Prelude.{List, ◌++◌, ℕ, drop, Option}
+use Rattle.std.specs.Prelude.{List, [], ◌∷◌, ◌++◌, ℕ, zero, suc, drop, Option, None, Some}
 use Rattle.value.specs.declared.Val.{Val}
 use Rattle.layout.specs.Number.{le, number_at}
 use Rattle.layout.specs.Format.{number, reads}
 use Rattle.definition.specs.Question.{Asked, address_of, size_of, read_at, call_to, Entry}
-use Rattle.definition.specs.Fields.{flag_and_number, written, entry}
+use Rattle.definition.specs.Fields.{no_val, flag_and_number, written, entry}
 use Rattle.definition.specs.Act.{Note, no_note, fields_written, value_written, result_unknown, not_followed}
 use Rattle.definition.specs.Record.{wrote_fields, NoteFields, note_fields, StepFields, step_format}
 use Rattle.stream.specs.declared.Symbol.{Symbol}
 use Rattle.stream.specs.declared.Symbol.TheVariants.{AddressOf, SizeOf}
+use Rattle.stream.specs.declared.Question.{Question}
+use Rattle.stream.specs.declared.Question.TheVariants.{Of, Read, Call}
 use Rattle.stream.specs.declared.NotePiece.{NotePiece}
 use Rattle.stream.specs.declared.NotePiece.TheVariants.{Nothing, Fields, Written, Unknown, NotFollowed}
+use Rattle.stream.specs.declared.NoteKind.{NoteKind}
+use Rattle.stream.specs.declared.NoteKind.TheVariants as kind
 use Rattle.stream.specs.declared.StepPiece.{StepPiece}
 
 -- ---- questions
@@ -21,6 +25,11 @@ question_bytes e = entry.write (written e)
 abbrev pub asked_by : Symbol → Asked
 asked_by AddressOf = address_of
 asked_by SizeOf = size_of
+
+abbrev pub asked_in : Question → Asked
+asked_in (Of kind) = asked_by kind
+asked_in Read = read_at
+asked_in Call = call_to
 
 abbrev pub symbol_entry : Symbol → ℕ → Option ℕ → Entry
 symbol_entry AddressOf name answer = (address_of, (name, answer))
@@ -61,6 +70,28 @@ note_of (Fields address count) names = fields_written address count
 note_of (Written address v) names = value_written address v
 note_of Unknown names = result_unknown
 note_of NotFollowed names = not_followed (taken_names NotFollowed names)
+
+-- a note of a kind, and the kind's number in the record
+abbrev pub kind_note : NoteKind → Note
+kind_note kind.Nothing = no_note
+kind_note kind.Fields = fields_written 0 0
+kind_note kind.Written = value_written 0 no_val
+kind_note kind.Unknown = result_unknown
+kind_note kind.NotFollowed = not_followed []
+kind_note kind.Taken = not_followed (0 ∷ [])
+
+abbrev pub note_number : NoteKind → ℕ
+note_number k = (note_fields (kind_note k)).0
+
+-- the kind of a number
+abbrev pub note_kind_at : ℕ → Option NoteKind
+note_kind_at zero = Some kind.Nothing
+note_kind_at (suc zero) = Some kind.Fields
+note_kind_at (suc (suc zero)) = Some kind.Written
+note_kind_at (suc (suc (suc zero))) = Some kind.Unknown
+note_kind_at (suc (suc (suc (suc zero)))) = Some kind.NotFollowed
+note_kind_at (suc (suc (suc (suc (suc zero))))) = Some kind.Taken
+note_kind_at (suc (suc (suc (suc (suc (suc n)))))) = None
 
 unfoldable pub note_from : NotePiece → List ℕ → NoteFields
 note_from note names = note_fields (note_of note names)

@@ -3,30 +3,28 @@
 #![tactic(auto)]
 
 ghost use Rattle.std.specs.Prelude.{◌≡◌, [], ◌∷◌, ◌&&◌, ◌+◌, ◌*◌, ◌≤◌, ◌<◌, length, take, leb};
+ghost use Rattle.std.specs.Result.{result_ok};
 ghost use Rattle.std.specs.Fn.{FnOnceTakesAtMut, FnOnceReturnsAtMut};
 ghost use Rattle.std.proofs.lemmas.List.Edits.{sets};
 ghost use Rattle.layout.specs.Number.{le};
 ghost use Rattle.definition.specs.Fields.{no_val, code_of};
 ghost use Rattle.definition.specs.Record.{wrote_fields, counts_body};
 ghost use Rattle.stream.specs.Stream.{advanced, When, Sent};
-ghost use Rattle.stream.specs.Pieces.{asked_by, question_bytes, symbol_entry, read_entry, call_bytes, taken_count, step_bytes, step_from};
+ghost use Rattle.stream.specs.Pieces.{asked_in, question_bytes, symbol_entry, read_entry, call_bytes, note_number, note_kind_at, taken_count, step_bytes, step_from};
 ghost use Rattle.stream.specs.Groups.{flagged_bytes, span_bytes, callee_bytes, place_bytes, wrote_bytes, note_bytes, head_bytes, names_bytes, cause_bytes, named_bytes};
 ghost use Rattle.stream.specs.declared.NotePiece.TheVariants.{Nothing};
-ghost use Rattle.stream.specs.Bodies.{kind_number, reason_number, reason_at, reason_field, stop_bytes, stop_from, stop_size, stop_place, pairs_of, lengths_of, last_end};
+ghost use Rattle.stream.specs.Bodies.{kind_number, kind_at, reason_number, reason_at, reason_field, stop_bytes, stop_from, stop_size, stop_place, pairs_of, lengths_of, questions_start, last_end};
 
 use layout::put;
 use value::Val;
-use value::encoding::put_val;
+use value::encoding::{self, put_val};
 
-// The most that a cursor tells.
-const MOST: u64 = 18446744073709551615;
-
-// The cursor after a piece of n bytes.
+// The cursor after a piece of n bytes: past the most that 64 bits tell it does not go.
 #[tactic(auto, unfolding(crate::specs::Stream::advanced))]
 fn advance(at: u64, n: u64) -> u64
     ensures { result ≡ advanced at n }
 {
-    if MOST - at < n { MOST } else { at + n }
+    at.saturating_add(n)
 }
 
 // Whether a piece of n bytes goes into a stream: it is on, and the piece fits behind the cursor.
@@ -41,7 +39,8 @@ fn has_room(out: &[u8], at: u64, on: bool, n: u64) -> bool
     on & (at <= len - n)
 }
 
-// A piece of n bytes goes into a stream, where it has room: where the cursor stands then.
+// A piece of n bytes goes into a stream, where it has room: where the cursor stands then. (The functions that call it have one form: each has a length and a
+// writer of its own.)
 #[inline(always)]
 fn send<F: FnOnce(&mut [u8])>(out: &mut [u8], at: u64, on: bool, n: u64, put: F) -> u64
     requires { at + n ≤ length out.old → FnOnceTakesAtMut F.FnOnce put out.old }
@@ -54,9 +53,9 @@ fn send<F: FnOnce(&mut [u8])>(out: &mut [u8], at: u64, on: bool, n: u64, put: F)
     next
 }
 
-// ---- parts of pieces, each stored at an index
+// ---- parts of pieces, each stored at an index (where two are some numbers behind one another, each has other widths)
 
-// What stands where there is no value: zero throughout.
+// What stands where there is no value: zero throughout. (By a name of its own: a `Val::default()` would not say that there is none.)
 pub fn no_value() -> Val
     ensures { result ≡ no_val }
 {
@@ -93,7 +92,7 @@ fn put_low(part: &mut [u8], at: usize, count: usize, number: u64)
     }
 }
 
-// The first n bytes of another slice.
+// The first n bytes of another slice. (n beside it, since the contracts of a call and of a step speak of the first bytes of what they are given.)
 fn put_bytes(part: &mut [u8], at: usize, from: &[u8], n: usize)
     requires { (at + n ≤ length part.old) × (n ≤ length from.now) }
     ensures { part.new ≡ sets part.old at (take n from.now) }
@@ -103,21 +102,30 @@ fn put_bytes(part: &mut [u8], at: usize, from: &[u8], n: usize)
 
 // ---- questions
 
-// What is asked of a symbol.
+// What is asked of a symbol, by the record's numbers.
 #[derive(Clone, Copy, PartialEq, Eq)]
 pub enum Symbol {
-    AddressOf,
-    SizeOf,
+    AddressOf = 1,
+    SizeOf = 2,
+}
+
+// What is asked.
+#[derive(Clone, Copy, PartialEq, Eq)]
+pub enum Question {
+    Of(Symbol),
+    Read,
+    Call,
 }
 
 // The record's number of a question.
-impl From<Symbol> for u64 {
-    ghost from_gives = { λ kind n. n ≡ code_of (asked_by kind) };
+impl From<Question> for u64 {
+    ghost from_gives = { λ question n. n ≡ code_of (asked_in question) };
 
-    fn from(kind: Symbol) -> u64 {
-        match kind {
-            Symbol::AddressOf => 1,
-            Symbol::SizeOf => 2,
+    fn from(question: Question) -> u64 {
+        match question {
+            Question::Of(symbol) => symbol as u64,
+            Question::Read => 3,
+            Question::Call => 4,
         }
     }
 }
@@ -127,12 +135,13 @@ fn put_symbol(part: &mut [u8], at: usize, kind: Symbol, name: usize, answer: Opt
     requires { at + 12 ≤ length part.old }
     ensures { part.new ≡ sets part.old at (question_bytes (symbol_entry kind name answer)) }
 {
-    put::<1>(part, at, u64::from(kind));
+    put::<1>(part, at, u64::from(Question::Of(kind)));
     put::<2>(part, at + 1, name as u64);
     put_flagged(part, at + 3, answer);
 }
 
 // `address_of` or `size_of` of a name, with the answer.
+#[tactic(auto, using(crate::proofs::StreamLaws::sent, crate::proofs::QuestionLaws::length_symbol))]
 pub fn question_symbol(
     out: &mut [u8],
     at: u64,
@@ -158,7 +167,7 @@ fn put_span(part: &mut [u8], at: usize, address: u64, size: u64)
     requires { at + 10 ≤ length part.old }
     ensures { part.new ≡ sets part.old at (span_bytes address size) }
 {
-    put::<1>(part, at, 3);
+    put::<1>(part, at, u64::from(Question::Read));
     put::<8>(part, at + 1, address);
     put::<1>(part, at + 9, size);
 }
@@ -173,7 +182,8 @@ fn put_read(part: &mut [u8], at: usize, address: u64, size: u64, count: u64, num
     put_low(part, at + 11, count as usize, number);
 }
 
-// `read`, with the answered bytes as a count and a little-endian number.
+// `read`, with the answered bytes as a count and a little-endian number. (Two parameters, as the definition's entry has them: who has an `Image` has both.)
+#[tactic(auto, using(crate::proofs::StreamLaws::sent, crate::proofs::QuestionLaws::length_read))]
 pub fn question_read(
     out: &mut [u8],
     at: u64,
@@ -201,7 +211,7 @@ fn put_callee(part: &mut [u8], at: usize, name: usize, address: u64, depth: u64)
     requires { at + 15 ≤ length part.old }
     ensures { part.new ≡ sets part.old at (callee_bytes name address depth) }
 {
-    put::<1>(part, at, 4);
+    put::<1>(part, at, u64::from(Question::Call));
     put::<2>(part, at + 1, name as u64);
     put::<8>(part, at + 3, address);
     put::<4>(part, at + 11, depth);
@@ -222,11 +232,13 @@ fn put_call(
 {
     put_callee(part, at, name, address, depth);
     put::<1>(part, at + 15, count as u64);
-    put_bytes(part, at + 16, values, 14 * count);
-    put::<1>(part, at + 16 + 14 * count, 0);
+    let n = encoding::SIZE * count;
+    put_bytes(part, at + 16, values, n);
+    put::<1>(part, at + 16 + n, 0);
 }
 
 // `call`, with the values in bytes as the record has them. It has no answer.
+#[tactic(auto, using(crate::proofs::StreamLaws::sent, crate::proofs::QuestionLaws::length_call))]
 pub fn question_call(
     out: &mut [u8],
     at: u64,
@@ -240,7 +252,7 @@ pub fn question_call(
     requires { 14 * count ≤ length values.now }
     ensures { Sent on out.old at (call_bytes name address depth count (take (14 * count) values.now)) out.new result }
 {
-    let n = 17 + 14 * count as u64;
+    let n = 17 + (encoding::SIZE * count) as u64;
     send(
         out,
         at,
@@ -253,13 +265,57 @@ pub fn question_call(
 // ---- steps
 
 // A step's note. The names that a call took which is not followed stand beside it.
-#[derive(Clone, Copy)]
+#[derive(Clone, Copy, Default)]
 pub enum NotePiece {
+    #[default]
     Nothing,
     Fields(u64, u64),
     Written(u64, Val),
     Unknown,
     NotFollowed,
+}
+
+// What kind of note it is in the record, by its numbers: a call that is not followed has two, one for where it took names.
+#[derive(Clone, Copy, PartialEq, Eq)]
+pub enum NoteKind {
+    Nothing = 0,
+    Fields = 1,
+    Written = 2,
+    Unknown = 3,
+    NotFollowed = 4,
+    Taken = 5,
+}
+
+// The record's number of a note.
+impl From<NoteKind> for u64 {
+    ghost from_gives = { λ kind n. n ≡ note_number kind };
+
+    fn from(note: NoteKind) -> u64 {
+        note as u64
+    }
+}
+
+// A number that stands for nothing here: no note, no stop or no reason has it.
+#[derive(Clone, Copy, PartialEq, Eq)]
+pub struct UnknownNumber;
+
+// The note of a number.
+impl TryFrom<u64> for NoteKind {
+    type Error = UnknownNumber;
+
+    ghost try_from_gives = { λ number r. result_ok r ≡ note_kind_at number };
+
+    fn try_from(number: u64) -> Result<NoteKind, UnknownNumber> {
+        match number {
+            0 => Ok(NoteKind::Nothing),
+            1 => Ok(NoteKind::Fields),
+            2 => Ok(NoteKind::Written),
+            3 => Ok(NoteKind::Unknown),
+            4 => Ok(NoteKind::NotFollowed),
+            5 => Ok(NoteKind::Taken),
+            _ => Err(UnknownNumber),
+        }
+    }
 }
 
 // One statement run: its address, if it has one, and what it wrote. Its note stands beside it.
@@ -293,13 +349,13 @@ fn put_wrote(part: &mut [u8], at: usize, wrote: Option<(usize, Val)>)
     put_val(part, at + 3, value);
 }
 
-// A note's fields up to the taken names, the first its number.
+// A note's fields up to the taken names.
 #[tactic(auto, using(crate::proofs::StepLaws::note_stored))]
-fn put_fields(part: &mut [u8], at: usize, kind: u64, address: u64, count: u64, value: Val)
+fn put_fields(part: &mut [u8], at: usize, kind: NoteKind, address: u64, count: u64, value: Val)
     requires { at + 27 ≤ length part.old }
-    ensures { part.new ≡ sets part.old at (note_bytes kind address count value) }
+    ensures { part.new ≡ sets part.old at (note_bytes (note_number kind) address count value) }
 {
-    put::<1>(part, at, kind);
+    put::<1>(part, at, u64::from(kind));
     put::<8>(part, at + 1, address);
     put::<4>(part, at + 9, count);
     put_val(part, at + 13, value);
@@ -311,14 +367,16 @@ fn put_note(part: &mut [u8], at: usize, note: NotePiece, count: usize)
     ensures { part.new ≡ sets part.old at (head_bytes note count) }
 {
     match note {
-        NotePiece::Nothing => put_fields(part, at, 0, 0, 0, no_value()),
-        NotePiece::Fields(address, n) => put_fields(part, at, 1, address, n, no_value()),
-        NotePiece::Written(address, v) => put_fields(part, at, 2, address, 0, v),
-        NotePiece::Unknown => put_fields(part, at, 3, 0, 0, no_value()),
-        NotePiece::NotFollowed => {
-            let kind = if count == 0 { 4 } else { 5 };
-            put_fields(part, at, kind, 0, 0, no_value());
+        NotePiece::Nothing => put_fields(part, at, NoteKind::Nothing, 0, 0, no_value()),
+        NotePiece::Fields(address, n) => {
+            put_fields(part, at, NoteKind::Fields, address, n, no_value())
         }
+        NotePiece::Written(address, v) => put_fields(part, at, NoteKind::Written, address, 0, v),
+        NotePiece::Unknown => put_fields(part, at, NoteKind::Unknown, 0, 0, no_value()),
+        NotePiece::NotFollowed if count == 0 => {
+            put_fields(part, at, NoteKind::NotFollowed, 0, 0, no_value())
+        }
+        NotePiece::NotFollowed => put_fields(part, at, NoteKind::Taken, 0, 0, no_value()),
     }
 }
 
@@ -343,7 +401,8 @@ fn put_step(part: &mut [u8], at: usize, s: StepPiece, note: NotePiece, names: &[
     put_names(part, at + 61, names, count);
 }
 
-// The same of a step that took no names. (Inlined, so that a note that is known is not matched.)
+// The same of a step that took no names, whose zeros are known beforehand. (Inlined, so that a note that is known is not matched: one function for the two that
+// call this costs each statement 29 instructions.)
 #[tactic(auto, using(crate::proofs::StepLaws::noted_stored))]
 #[inline(always)]
 fn put_noted(part: &mut [u8], at: usize, s: StepPiece, note: NotePiece)
@@ -368,6 +427,7 @@ fn taken_count(note: NotePiece, names: &[u8]) -> usize
 }
 
 // A step. The taken names stand in bytes as the record has them, behind their count.
+#[tactic(auto, using(crate::proofs::StreamLaws::sent, crate::proofs::StepLaws::length_step))]
 pub fn step(out: &mut [u8], at: u64, on: bool, s: StepPiece, note: NotePiece, names: &[u8]) -> u64
     requires { 2 + 2 * taken_count note names.now ≤ length names.now }
     ensures { Sent on out.old at (step_bytes (step_from s note names.now)) out.new result }
@@ -384,6 +444,7 @@ pub fn step(out: &mut [u8], at: u64, on: bool, s: StepPiece, note: NotePiece, na
 }
 
 // A step that took no names.
+#[tactic(auto, using(crate::proofs::StreamLaws::sent, crate::proofs::StepLaws::length_noted))]
 pub fn noted_step(out: &mut [u8], at: u64, on: bool, s: StepPiece, note: NotePiece) -> u64
     ensures { Sent on out.old at (step_bytes (step_from s note [])) out.new result }
 {
@@ -397,6 +458,7 @@ pub fn noted_step(out: &mut [u8], at: u64, on: bool, s: StepPiece, note: NotePie
 }
 
 // A step without a note. Most steps have none, and zeros that are known beforehand cost less: a call of `noted_step` would not let them be known.
+#[tactic(auto, using(crate::proofs::StreamLaws::sent, crate::proofs::StepLaws::length_noted))]
 pub fn plain_step(out: &mut [u8], at: u64, on: bool, s: StepPiece) -> u64
     ensures { Sent on out.old at (step_bytes (step_from s Nothing [])) out.new result }
 {
@@ -411,17 +473,29 @@ pub fn plain_step(out: &mut [u8], at: u64, on: bool, s: StepPiece) -> u64
 
 // ---- the bodies that are written at once, each at the front of its part
 
-// What a run stopped for.
+// The bytes of Stop and of Counts.
+const STOP_SIZE: usize = 39;
+
+const COUNTS_SIZE: usize = 12;
+
+// Where they lie, behind the six pairs, and where the steps start behind them.
+pub const STOP_PLACE: usize = 6 * 8;
+
+pub const COUNTS_PLACE: usize = STOP_PLACE + STOP_SIZE;
+
+pub const STEPS_PLACE: usize = COUNTS_PLACE + COUNTS_SIZE;
+
+// What a run stopped for, by the record's numbers.
 #[derive(Clone, Copy, PartialEq, Eq)]
 pub enum Kind {
-    Returned,
-    ReturnedNothing,
-    Steps,
-    Unknown,
-    NoBlock,
-    NoBlocks,
-    NoReturn,
-    Halted,
+    Returned = 0,
+    ReturnedNothing = 1,
+    Steps = 2,
+    Unknown = 3,
+    NoBlock = 4,
+    NoBlocks = 5,
+    NoReturn = 6,
+    Halted = 7,
 }
 
 // The record's number of a stop.
@@ -429,31 +503,43 @@ impl From<Kind> for u64 {
     ghost from_gives = { λ kind n. n ≡ kind_number kind };
 
     fn from(kind: Kind) -> u64 {
-        match kind {
-            Kind::Returned => 0,
-            Kind::ReturnedNothing => 1,
-            Kind::Steps => 2,
-            Kind::Unknown => 3,
-            Kind::NoBlock => 4,
-            Kind::NoBlocks => 5,
-            Kind::NoReturn => 6,
-            Kind::Halted => 7,
+        kind as u64
+    }
+}
+
+// The stop of a number.
+impl TryFrom<u64> for Kind {
+    type Error = UnknownNumber;
+
+    ghost try_from_gives = { λ number r. result_ok r ≡ kind_at number };
+
+    fn try_from(number: u64) -> Result<Kind, UnknownNumber> {
+        match number {
+            0 => Ok(Kind::Returned),
+            1 => Ok(Kind::ReturnedNothing),
+            2 => Ok(Kind::Steps),
+            3 => Ok(Kind::Unknown),
+            4 => Ok(Kind::NoBlock),
+            5 => Ok(Kind::NoBlocks),
+            6 => Ok(Kind::NoReturn),
+            7 => Ok(Kind::Halted),
+            _ => Err(UnknownNumber),
         }
     }
 }
 
-// Why an evaluation ended short.
+// Why an evaluation ended short, by the record's numbers. (Its 0 is for none.)
 #[derive(Clone, Copy, PartialEq, Eq)]
 pub enum Reason {
-    BranchUnknown,
-    SwitchUnknown,
-    NoCase,
-    StructTo,
-    UnknownAddress,
-    UnknownValue,
-    NoWidth,
-    StoreTo,
-    ByZero,
+    BranchUnknown = 1,
+    SwitchUnknown = 2,
+    NoCase = 3,
+    StructTo = 4,
+    UnknownAddress = 5,
+    UnknownValue = 6,
+    NoWidth = 7,
+    StoreTo = 8,
+    ByZero = 9,
 }
 
 // The record's number of a reason.
@@ -461,36 +547,28 @@ impl From<Reason> for u64 {
     ghost from_gives = { λ reason n. n ≡ reason_number reason };
 
     fn from(reason: Reason) -> u64 {
-        match reason {
-            Reason::BranchUnknown => 1,
-            Reason::SwitchUnknown => 2,
-            Reason::NoCase => 3,
-            Reason::StructTo => 4,
-            Reason::UnknownAddress => 5,
-            Reason::UnknownValue => 6,
-            Reason::NoWidth => 7,
-            Reason::StoreTo => 8,
-            Reason::ByZero => 9,
-        }
+        reason as u64
     }
 }
 
-impl Reason {
-    // The reason of a number, if it is one's.
-    pub fn numbered(number: u64) -> Option<Reason>
-        ensures { result ≡ reason_at number }
-    {
+// The reason of a number.
+impl TryFrom<u64> for Reason {
+    type Error = UnknownNumber;
+
+    ghost try_from_gives = { λ number r. result_ok r ≡ reason_at number };
+
+    fn try_from(number: u64) -> Result<Reason, UnknownNumber> {
         match number {
-            1 => Some(Reason::BranchUnknown),
-            2 => Some(Reason::SwitchUnknown),
-            3 => Some(Reason::NoCase),
-            4 => Some(Reason::StructTo),
-            5 => Some(Reason::UnknownAddress),
-            6 => Some(Reason::UnknownValue),
-            7 => Some(Reason::NoWidth),
-            8 => Some(Reason::StoreTo),
-            9 => Some(Reason::ByZero),
-            _ => None,
+            1 => Ok(Reason::BranchUnknown),
+            2 => Ok(Reason::SwitchUnknown),
+            3 => Ok(Reason::NoCase),
+            4 => Ok(Reason::StructTo),
+            5 => Ok(Reason::UnknownAddress),
+            6 => Ok(Reason::UnknownValue),
+            7 => Ok(Reason::NoWidth),
+            8 => Ok(Reason::StoreTo),
+            9 => Ok(Reason::ByZero),
+            _ => Err(UnknownNumber),
         }
     }
 }
@@ -511,10 +589,7 @@ pub struct StopPiece {
 fn number_of(reason: Option<Reason>) -> u64
     ensures { result ≡ reason_field reason }
 {
-    match reason {
-        Some(r) => u64::from(r),
-        None => 0,
-    }
+    reason.map_or(0, u64::from)
 }
 
 // A stop up to its address.
@@ -570,6 +645,24 @@ pub struct Lengths {
     pub questions: u64,
 }
 
+impl Lengths {
+    // Where the questions start, which are the last body.
+    pub fn questions_place(self) -> u64
+        requires { questions_start self < 18446744073709551616 }
+        ensures { result ≡ questions_start self }
+    {
+        STEPS_PLACE as u64 + self.steps + self.variables + self.memory
+    }
+
+    // Where they end, which is the record's length.
+    pub fn end(self) -> u64
+        requires { last_end self < 18446744073709551616 }
+        ensures { result ≡ last_end self }
+    {
+        self.questions_place() + self.questions
+    }
+}
+
 // A pair. The next body starts where this one ends.
 #[tactic(auto, using(crate::proofs::BodyLaws::pair_stored))]
 fn put_pair(part: &mut [u8], at: usize, offset: u64, n: u64) -> u64
@@ -598,6 +691,13 @@ pub fn pairs(part: &mut [u8], l: Lengths)
     requires { (stop_place ≤ length part.old) × (last_end l < 4294967296) }
     ensures { part.new ≡ sets part.old 0 (pairs_of stop_place (lengths_of l)) }
 {
-    let next = put_three(part, 0, 48, 39, 12, l.steps);
+    let next = put_three(
+        part,
+        0,
+        STOP_PLACE as u64,
+        STOP_SIZE as u64,
+        COUNTS_SIZE as u64,
+        l.steps,
+    );
     put_three(part, 24, next, l.variables, l.memory, l.questions);
 }

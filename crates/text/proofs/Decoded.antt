@@ -21,7 +21,7 @@ use Rattle.definition.proofs.Fields.{OptionFits, ValFits, flag_sound, val_sound}
 use Rattle.definition.proofs.Record.{stop_length}
 use Rattle.value.specs.Encoding.{val, val_at}
 use Rattle.text.specs.Read.{address_in, written_if, wrote_in, names_in, note_in, step_in, step_size, StepThere, why_in, stop_in, StopThere, VariableThere}
-use Rattle.text.proofs.Fits.{WroteFits, NoteFits, StepFits, WhyFits, StopFits, VariableFits}
+use Rattle.text.specs.Fits.{WroteFits, NoteFits, StepFits, WhyFits, StopFits, VariableFits}
 use Rattle.text.proofs.Places.{step_fields_in, stop_fields_in, step_at, stop_at_lem, variable_at_lem}
 use Rattle.stream.proofs.StepLaws.{length_names}
 

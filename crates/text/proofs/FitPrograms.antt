@@ -31,7 +31,7 @@ use Rattle.definition.specs.World.{world_of}
 use Rattle.definition.proofs.Fields.{OptionFits}
 use Rattle.definition.proofs.World.{world_fits}
 use Rattle.definition.proofs.Verdict.{accepted_run}
-use Rattle.text.proofs.Fits.{RanFits}
+use Rattle.text.specs.Fits.{RanFits}
 use Rattle.text.proofs.FitTrees.{NodeFits, FitTree, fit_tree, FitTrees, fit_nil, fit_cons}
 use Rattle.text.proofs.FitRuns.{StatementFits, EndsFit, fit_returns, fit_goto, fit_branch, fit_switch, BlockFits, DeclaredFits, ProgramFits, ran_in_fits}
 

@@ -27,7 +27,7 @@ use Rattle.definition.specs.Statements.{Stop, Unknown, NoBlock, NoBlocks, Outcom
 use Rattle.definition.specs.Walk.{Place, before, within, Next, stops, goes, last_address, address_or, extended, left_to, taking, choosing, terminate, settle, onward, block_of, unit, walk, walk_from, stop_at, walk_all, declared_in, parameters_set, unset_added, follow_at, env_of}
 use Rattle.definition.specs.Run.{acts, start, stop_of, ran_of, ran_in}
 use Rattle.definition.proofs.Fields.{OptionFits, AnswerFits}
-use Rattle.text.proofs.Fits.{NoteFits, StepFits, StopFits, VariableFits, RanFits}
+use Rattle.text.specs.Fits.{NoteFits, StepFits, StopFits, VariableFits, RanFits}
 use Rattle.text.proofs.FitValues.{TyIs, ValIs, unknown_fits, cast_fits, type_fits, residue_fits}
 use Rattle.text.proofs.FitTrees.{OptionIs, PendingFits, OpFits, ReplyFits, All, Fit, EndFits, f_bind, f_done, f_fail, f_ask, f_act, f_if, f_option, f_try, FitTree, fit_tree, FitTerm, FitTerms, fit_none, fit_more, f_eval, f_kids, f_kid, f_node, number_fits, DidFits, EnvFits, f_look, f_execute}
 

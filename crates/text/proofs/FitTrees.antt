@@ -29,7 +29,7 @@ use Rattle.definition.specs.Memory.{gather, loaded, load, pokes, store_val}
 use Rattle.definition.specs.Term.{Term, term, Terms, no_terms, more_terms, node, eval, kids, is, nothing, kid, rest, count, evals}
 use Rattle.definition.specs.Evaluate.{Env, Did, answered, number_in, width_in, type_or, chosen, value_of, unknown_note, read_variable, write_variable, pointee_of, pointer, store_fields, assign_struct, assign_val, assign, taken_by, take_names, followed, call, address_val, eval_as, look, looks, execute}
 use Rattle.definition.proofs.Fields.{OptionFits, AnswerFits}
-use Rattle.text.proofs.Fits.{WroteFits, NoteFits, StepFits, WhyFits}
+use Rattle.text.specs.Fits.{WroteFits, NoteFits, StepFits, WhyFits}
 use Rattle.text.proofs.FitValues.{TyIs, ValIs, small, sixty_four, known_fits, unknown_fits, cast_fits, type_fits, AnswerIs, value_is, no_value, binary_fits}
 
 abbrev pub OptionIs : {X : Type 0} → (X → Type 0) → Option X → Type 0

@@ -6,10 +6,10 @@ pub mod ReadLaws
 pub mod ValueText
 pub mod StepText
 pub mod StopText
-pub mod Fits
 pub mod Places
 pub mod Decoded
 pub mod Listing
+pub mod StepRest
 pub mod FitValues
 pub mod FitTrees
 pub mod FitRuns

@@ -12,7 +12,8 @@ use Rattle.definition.specs.Listing.{listing_of}
 use Rattle.text.specs.Read.{StopThere}
 use Rattle.text.specs.Lines.{lines_of}
 use Rattle.text.proofs.FitPrograms.{ran_fits, record_short}
-use Rattle.text.proofs.Listing.{StepsLeft, VariablesLeft, stop_is_there, steps_left, variables_left, lines_are, listing_run}
+use Rattle.text.specs.Left.{StepsLeft, VariablesLeft}
+use Rattle.text.proofs.Listing.{stop_is_there, steps_left, variables_left, lines_are, listing_run}
 
 module _ (routine world call : List ℕ) (h : number routine world call 65536 workspace_needed ≡ 0) where
   abbrev named : ℕ

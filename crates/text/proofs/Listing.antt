@@ -23,7 +23,8 @@ use Rattle.definition.proofs.Record.{body_back, body_inside}
 use Rattle.value.specs.Encoding.{val, val_at}
 use Rattle.text.specs.Read.{step_in, step_size, StepThere, stop_in, StopThere, VariableThere}
 use Rattle.text.specs.Lines.{header_text, stop_line, variable_line, step_lines, variable_lines, lines_of}
-use Rattle.text.proofs.Fits.{StepFits, VariableFits, RanFits}
+use Rattle.text.specs.Left.{StepsLeft, VariablesLeft}
+use Rattle.text.specs.Fits.{StepFits, VariableFits, RanFits}
 use Rattle.text.proofs.Decoded.{step_read, step_length, step_there, stop_read, stop_there, variable_read, variable_there}
 
 step_size_lem : (s : List ℕ) → 63 ≤ step_size s
@@ -35,13 +36,6 @@ unfolding step_size
 step_size_is s = refl
 
 -- ---- a body of steps
-
--- what is left of a body: it was written of steps that fit
-pub record StepsLeft (n : ℕ) (s : List ℕ) : Type 0 where
-  pub few : n ≤ 512
-  pub steps : List Step
-  pub is : s ≡ steps_body steps
-  pub fits : Each (StepFits n) steps
 
 steps_cons : (e : Step) (es : List Step) → steps_body (e ∷ es) ≡ step_format.write (step_fields e) ++ steps_body es
 unfolding steps_body
@@ -100,12 +94,6 @@ module _ (names : List (List ℕ)) where
       (step_lines_lem n few es fits.1 f (drop (step_size s) s) (rw length-drop (omega (arith, size, there.inside))) (after n few e es fits s is))
 
 -- ---- a body of variables
-
-pub record VariablesLeft (n : ℕ) (s : List ℕ) : Type 0 where
-  pub few : n ≤ 512
-  pub variables : Overlay Val
-  pub is : s ≡ variables_body variables
-  pub fits : Each (VariableFits n) variables
 
 module _ (n : ℕ) (few : n ≤ 512) (p : ℕ × Val) (ps : Overlay Val) (fits : Each (VariableFits n) (p ∷ ps)) (s : List ℕ) (is : s ≡ variables_body (p ∷ ps)) where
   first_variable : s ≡ (pair (number 2) val).write p ++ variables_body ps

@@ -1,12 +1,13 @@
 -- The text of a value from its parts. Assumes nothing.
-use mathlib.Core.Path.{◌≡◌, sym, ap}
+use mathlib.Core.Path.{◌≡◌, sym, ap, ◌∙◌}
 use mathlib.Core.Bool.{Bool, true, false}
 use mathlib.Core.List.{List, [], ◌++◌}
 use Prim.Native.Nat.{ℕ, ◌<◌}
 use borrow.Author.Tests.{lt-ltb}
 use Rattle.layout.specs.Text.{text}
 use Rattle.value.specs.declared.Val.{Val}
-use Rattle.value.specs.Value.{meaning}
+use Rattle.value.specs.declared.Ty.{Ty}
+use Rattle.value.specs.Value.{type_of_val, read_as, meaning}
 use Rattle.definition.specs.Numerals.{digits, hexadecimal}
 use Rattle.definition.specs.Listing.{integer_text, hex_beside, val_text}
 
@@ -25,5 +26,5 @@ module _ (v : Val) where
   abbrev shown : Bool → List ℕ
   shown t = elim t [ true ↦ integer_text (meaning v) ++ hex_beside v.number | false ↦ text "unknown" ]
 
-  pub value_known : v.known ≡ true → integer_text (meaning v) ++ hex_beside v.number ≡ val_text v
-  value_known h = ap shown (sym h)
+  pub value_known : {t : Ty} → t ≡ type_of_val v → v.known ≡ true → integer_text (read_as t v.number) ++ hex_beside v.number ≡ val_text v
+  value_known e h = ap (λ (y : Ty). integer_text (read_as y v.number) ++ hex_beside v.number) e ∙ ap shown (sym h)

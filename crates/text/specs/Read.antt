@@ -1,6 +1,6 @@
 -- What stands in the bodies of a record, read by place: a value, a step, a stop, a variable. `s` is the body from the first byte of what is read on.
 -- Assumes nothing.
-use Rattle.std.specs.Prelude.{◌≡◌, Bool, true, false, cond, List, [], ◌∷◌, ℕ, zero, suc, ◌+◌, ◌*◌, ◌≤◌, ◌<◌, length, eqb, Option, None, Some}
+use Rattle.std.specs.Prelude.{◌≡◌, Bool, true, false, cond, List, [], ◌∷◌, ℕ, zero, suc, ◌+◌, ◌*◌, ◌≤◌, ◌<◌, length, drop, eqb, Option, None, Some}
 use Rattle.layout.specs.Number.{number_at}
 use Rattle.layout.specs.Format.{bool_of}
 use Rattle.value.specs.declared.Val.{Val}
@@ -46,6 +46,16 @@ step_in s = record {
 
 unfoldable pub step_size : List ℕ → ℕ
 step_size s = 63 + 2 * number_at s 61 2
+
+-- the steps that stand in a body, one after the other; the number bounds how many
+unfoldable pub steps_read : ℕ → List ℕ → List Step
+steps_read zero s = []
+steps_read (suc f) [] = []
+steps_read (suc f) (b ∷ s) = step_in (b ∷ s) ∷ steps_read f (drop (step_size (b ∷ s)) (b ∷ s))
+
+-- each has a byte at least
+unfoldable pub steps_in : List ℕ → List Step
+steps_in s = steps_read (length s) s
 
 -- a step that lies inside, takes at most 16 names and names what is among the first n
 pub record StepThere (n : ℕ) (s : List ℕ) : Type 0 where

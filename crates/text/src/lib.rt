@@ -5,7 +5,6 @@ ghost use Rattle.std.specs.Prelude.{◌++◌, ◌≤◌, ◌<◌, length};
 ghost use Rattle.layout.specs.Text.{text};
 ghost use Rattle.layout.specs.Number.{number_at};
 ghost use Rattle.files.specs.Program.{texts_in};
-ghost use Rattle.index.specs.Texts.{text_count};
 ghost use Rattle.definition.specs.Numerals.{decimal};
 ghost use Rattle.definition.specs.Listing.{step_text};
 ghost use Rattle.value.specs.Encoding.{val_at};
@@ -19,17 +18,18 @@ mod numerals;
 pub mod steps;
 pub mod stops;
 
-use bodies::{HeadBytes, Names, StepBytes, StopBytes, VariableBytes};
+use bodies::{HeadBytes, Name, StepBytes, StopBytes, VariableBytes};
 use line::Line;
 use stops::Stop;
 use value::Val;
 
-// The bytes of a buffer in which every line fits. A longer one may be lent, so that each line asks for the length and no type has it.
+// The bytes of a buffer in which every line fits. (That the lent one has so many is a clause of each line: a type with this fact would be made from the buffer
+// for one line, by the same proof, and taken apart again for the next.)
 pub const LINE: usize = 8192;
 
 // Pieces in a row, other ones in each line: a function for two of them would take each piece as a parameter, and say no less.
 impl<'a> Line<'a> {
-    ghost use Rattle.text.specs.Told.{stop_told, StopNamed};
+    ghost use Rattle.text.specs.Told.{stop_said};
     ghost use Rattle.text.specs.Pushed.{Room, Pushed};
 
     fn refusal(&mut self, number: u64)
@@ -42,37 +42,33 @@ impl<'a> Line<'a> {
     }
 
     #[tactic(auto, unfolding(crate::specs::Lines::header_text))]
-    fn header(&mut self, names: Names, name: usize, address: u64)
-        requires there { name < text_count names.body.now }
-        requires room { Room self.old (header_text (texts_in names.body.now) name address) }
-        ensures { Pushed self.old self.new (header_text (texts_in names.entry.body.now) name address) }
+    fn header(&mut self, name: Name, address: u64)
+        requires { Room self.old (header_text (texts_in name.names.body.now) name.number address) }
+        ensures { Pushed self.old self.new (header_text (texts_in name.entry.names.body.now) name.entry.number address) }
     {
         self.text(b"; ");
-        self.name(names, name);
+        self.name(name);
         self.text(b" at ");
         self.hexadecimal(address);
         self.text(b": emulated\n");
     }
 
-    #[tactic(auto, unfolding(crate::specs::Lines::stop_line))]
-    fn stop_line(&mut self, names: Names, stop: Stop)
-        requires there { StopNamed (text_count names.body.now) stop }
-        requires room { Room self.old (stop_line (texts_in names.body.now) (stop_told stop)) }
-        ensures { Pushed self.old self.new (stop_line (texts_in names.entry.body.now) (stop_told stop)) }
+    fn stop_line(&mut self, stop: Stop)
+        requires { Room self.old (text "; " ++ (stop_said stop ++ text "\n")) }
+        ensures { Pushed self.old self.new (text "; " ++ (stop_said stop.entry ++ text "\n")) }
     {
         self.text(b"; ");
-        self.stop(names, stop);
+        self.stop(stop);
         self.text(b"\n");
     }
 
     #[tactic(auto, unfolding(crate::specs::Lines::variable_line))]
-    fn variable(&mut self, names: Names, name: usize, v: Val)
-        requires there { name < text_count names.body.now }
-        requires room { Room self.old (variable_line (texts_in names.body.now) (name, v)) }
-        ensures { Pushed self.old self.new (variable_line (texts_in names.entry.body.now) (name, v)) }
+    fn variable(&mut self, name: Name, v: Val)
+        requires { Room self.old (variable_line (texts_in name.names.body.now) (name.number, v)) }
+        ensures { Pushed self.old self.new (variable_line (texts_in name.entry.names.body.now) (name.entry.number, v)) }
     {
         self.text(b";   ");
-        self.name(names, name);
+        self.name(name);
         self.text(b" = ");
         self.value(v);
         self.text(b"\n");
@@ -96,7 +92,7 @@ pub fn header(head: HeadBytes, out: &mut [u8]) -> usize
     ensures { (Put out.old 0 (header_text (texts_in head.entry.names.body.now) (number_at head.entry.bytes.now 0 2) (number_at head.entry.bytes.now 2 8)) out.new result) × (result ≤ 8192) }
 {
     let mut line = Line::new(out);
-    line.header(head.names, head.name(), head.address());
+    line.header(head.name(), head.address());
     line.len()
 }
 
@@ -116,7 +112,7 @@ pub fn stop_line(stop: StopBytes, out: &mut [u8]) -> usize
     ensures { (Put out.old 0 (stop_line (texts_in stop.entry.names.body.now) (stop_in stop.entry.bytes.now)) out.new result) × (result ≤ 8192) }
 {
     let mut line = Line::new(out);
-    line.stop_line(stop.names, stop.stop());
+    line.stop_line(stop.stop());
     line.len()
 }
 
@@ -126,6 +122,6 @@ pub fn variable_line(variable: VariableBytes, out: &mut [u8]) -> usize
     ensures { (Put out.old 0 (variable_line (texts_in variable.entry.names.body.now) (number_at variable.entry.bytes.now 0 2, val_at variable.entry.bytes.now 2)) out.new result) × (result ≤ 8192) }
 {
     let mut line = Line::new(out);
-    line.variable(variable.names, variable.name(), variable.value());
+    line.variable(variable.name(), variable.value());
     line.len()
 }

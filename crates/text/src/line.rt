@@ -1,15 +1,15 @@
-// A line that is being written: texts, numbers, names and values appended one behind the other.
-ghost use Rattle.std.specs.Prelude.{◌≡◌, ◌<◌};
+// A line that is being written: texts, numbers, names and values appended one behind the other. (By hand: `write!` answers a `Result`, and no line here
+// can fail.)
+ghost use Rattle.std.specs.Prelude.{◌≡◌};
 ghost use Rattle.layout.specs.Text.{text};
 ghost use Rattle.files.specs.Program.{texts_in};
-ghost use Rattle.index.specs.Texts.{text_count};
 ghost use Rattle.value.specs.Value.{read_as};
 ghost use Rattle.definition.specs.Numerals.{digits, decimal, hexadecimal, padded};
 ghost use Rattle.definition.specs.Listing.{integer_text, hex_beside, val_text, name_text};
 ghost use Rattle.text.specs.Put.{last_digits};
 ghost use Rattle.text.specs.Pushed.{Room, Pushed};
 
-use crate::bodies::Names;
+use crate::bodies::Name;
 use crate::numerals::Base;
 use value::{Ty, Val};
 
@@ -120,19 +120,14 @@ impl<'a> Line<'a> {
         if !v.known {
             return self.text(b"unknown");
         }
-        let ty = Ty {
-            bits: v.bits,
-            signed: v.signed,
-        };
-        self.integer(ty, v.number);
+        self.integer(v.ty(), v.number);
         self.beside(v.number);
     }
 
-    pub fn name(&mut self, names: Names, name: usize)
-        requires there { name < text_count names.body.now }
-        requires room { Room self.old (name_text (texts_in names.body.now) name) }
-        ensures { Pushed self.old self.new (name_text (texts_in names.entry.body.now) name) }
+    pub fn name(&mut self, name: Name)
+        requires { Room self.old (name_text (texts_in name.names.body.now) name.number) }
+        ensures { Pushed self.old self.new (name_text (texts_in name.entry.names.body.now) name.entry.number) }
     {
-        self.text(names.text(name));
+        self.text(name.text());
     }
 }

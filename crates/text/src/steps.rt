@@ -1,30 +1,19 @@
 // The parts of a step's line.
-ghost use Rattle.std.specs.Prelude.{◌≤◌, ◌<◌, [], IfSome};
+ghost use Rattle.std.specs.Prelude.{◌≤◌, []};
 ghost use Rattle.layout.specs.Text.{text};
 ghost use Rattle.layout.specs.Number.{number_at};
 ghost use Rattle.files.specs.Program.{texts_in};
-ghost use Rattle.index.specs.Texts.{text_count};
 ghost use Rattle.definition.specs.Act.{not_followed};
-ghost use Rattle.definition.specs.Listing.{address_text, wrote_text, note_text, step_text};
+ghost use Rattle.definition.specs.Listing.{address_text, note_text, step_text};
 ghost use Rattle.text.specs.Read.{names_in, step_in};
-ghost use Rattle.text.specs.Told.{note_told};
+ghost use Rattle.text.specs.Told.{note_told, wrote_said};
 ghost use Rattle.text.specs.Lines.{commaed};
 ghost use Rattle.text.specs.Pushed.{Room, Pushed};
 
-use crate::bodies::{Names, StepBytes};
+use crate::bodies::{Name, StepBytes};
 use crate::line::Line;
+use stream::NotePiece;
 use value::Val;
-
-// What a step's note tells: at which address how many fields, or which value, were stored; that a result is unknown; or that a call is not
-// followed, of which the step's bytes tell the names that it took.
-#[derive(Clone, Copy)]
-pub enum Note {
-    Nothing,
-    Fields(u64, u64),
-    Written(u64, Val),
-    Unknown,
-    NotFollowed,
-}
 
 impl<'a> Line<'a> {
     // The address, or as much space as it takes.
@@ -39,16 +28,15 @@ impl<'a> Line<'a> {
     }
 
     // What it wrote.
-    pub fn wrote(&mut self, names: Names, wrote: Option<(usize, Val)>)
-        requires there { IfSome wrote (λ w. w.0 < text_count names.body.now) }
-        requires room { Room self.old (wrote_text (texts_in names.body.now) wrote) }
-        ensures { Pushed self.old self.new (wrote_text (texts_in names.entry.body.now) wrote) }
+    pub fn wrote(&mut self, wrote: Option<(Name, Val)>)
+        requires { Room self.old (wrote_said wrote) }
+        ensures { Pushed self.old self.new (wrote_said wrote.entry) }
     {
         let Some((name, v)) = wrote else {
             return;
         };
         self.text(b"  ; ");
-        self.name(names, name);
+        self.name(name);
         self.text(b" = ");
         self.value(v);
     }
@@ -59,10 +47,10 @@ impl<'a> Line<'a> {
         requires room { Room self.old (commaed (texts_in step.names.body.now) (names_in step.bytes.now 63 (number_at step.bytes.now 61 2))) }
         ensures { Pushed self.old self.new (commaed (texts_in step.entry.names.body.now) (names_in step.entry.bytes.now 63 (number_at step.entry.bytes.now 61 2))) }
     {
-        self.name(step.names, step.taken(0));
+        self.name(step.taken(0));
         for k in 1..step.taken_count() {
             self.text(b", ");
-            self.name(step.names, step.taken(k));
+            self.name(step.taken(k));
         }
     }
 
@@ -81,27 +69,27 @@ impl<'a> Line<'a> {
         self.text(b" after it");
     }
 
-    // The note of a step.
-    pub fn note(&mut self, step: StepBytes, note: Note)
+    // The note of a step: of a call that is not followed the step's bytes tell the names that it took.
+    pub fn note(&mut self, step: StepBytes, note: NotePiece)
         requires { Room self.old (note_text (texts_in step.names.body.now) (note_told step.bytes.now note)) }
         ensures { Pushed self.old self.new (note_text (texts_in step.entry.names.body.now) (note_told step.entry.bytes.now note)) }
     {
         match note {
-            Note::Nothing => (),
-            Note::Fields(address, count) => {
+            NotePiece::Nothing => (),
+            NotePiece::Fields(address, count) => {
                 self.text(b"  ; wrote ");
                 self.decimal(count);
                 self.text(b" fields at ");
                 self.hexadecimal(address);
             }
-            Note::Written(address, v) => {
+            NotePiece::Written(address, v) => {
                 self.text(b"  ; wrote ");
                 self.value(v);
                 self.text(b" at ");
                 self.hexadecimal(address);
             }
-            Note::Unknown => self.text(b"  ; its result is unknown"),
-            Note::NotFollowed => self.not_followed(step),
+            NotePiece::Unknown => self.text(b"  ; its result is unknown"),
+            NotePiece::NotFollowed => self.not_followed(step),
         }
     }
 
@@ -114,7 +102,7 @@ impl<'a> Line<'a> {
         self.address(step.address());
         self.text(b"  ");
         self.decimal(step.statement());
-        self.wrote(step.names, step.wrote());
+        self.wrote(step.wrote());
         self.note(step, step.note());
         self.text(b"\n");
     }

@@ -1,33 +1,26 @@
 // Why a run stopped. Where no name is told, a contract speaks of no names (`[]`).
 ghost use Rattle.std.specs.Prelude.{[]};
 ghost use Rattle.layout.specs.Text.{text};
-ghost use Rattle.files.specs.Program.{texts_in};
-ghost use Rattle.index.specs.Texts.{text_count};
 ghost use Rattle.definition.specs.Numerals.{decimal};
-ghost use Rattle.definition.specs.Listing.{why_text, stopped_text, stop_text, node_text};
-ghost use Rattle.text.specs.Told.{why_told, stop_told, WhyNamed, StopNamed};
+ghost use Rattle.definition.specs.Listing.{stopped_text, node_text};
+ghost use Rattle.text.specs.Told.{why_said, stop_said};
 ghost use Rattle.text.specs.Pushed.{Room, Pushed};
 
-use crate::bodies::Names;
+use crate::bodies::Name;
 use crate::line::Line;
 use value::{Ty, Val};
 
-// The type of the value that a switch is on.
-const WORD: Ty = Ty {
-    bits: 64,
-    signed: true,
-};
-
-// The reason that an evaluation ended short, with the node, the value, the address or the name that it names.
+// The reason that an evaluation ended short, with the node, the value, the address or the name that it names. (It and `Stop` are what a record tells: a run's own,
+// in `hosting`, has one number for all that a reason may name, may end for want of room, and does not know its limit.)
 #[derive(Clone, Copy)]
-pub enum Why {
+pub enum Why<'a> {
     BranchUnknown(u64),
     SwitchUnknown(u64),
     NoCase(u64),
     StructTo(u64),
     UnknownAddress(u64),
     UnknownValue(u64),
-    NoWidth(usize),
+    NoWidth(Name<'a>),
     StoreTo(u64),
     ByZero,
 }
@@ -35,10 +28,10 @@ pub enum Why {
 // Why a run stopped: a value that it returned, if any; the limit of steps; where and for which reason; a block that there is not; where
 // the call is that does not return; where and at which address what is not analyzed.
 #[derive(Clone, Copy)]
-pub enum Stop {
+pub enum Stop<'a> {
     Returned(Option<Val>),
     Steps(u64),
-    Unknown(Option<u64>, Why),
+    Unknown(Option<u64>, Why<'a>),
     NoBlock(u64),
     NoBlocks,
     NoReturn(Option<u64>),
@@ -55,10 +48,9 @@ impl<'a> Line<'a> {
     }
 
     // The reason.
-    pub fn why(&mut self, names: Names, why: Why)
-        requires there { WhyNamed (text_count names.body.now) why }
-        requires room { Room self.old (why_text (texts_in names.body.now) (why_told why)) }
-        ensures { Pushed self.old self.new (why_text (texts_in names.entry.body.now) (why_told why)) }
+    pub fn why(&mut self, why: Why)
+        requires { Room self.old (why_said why) }
+        ensures { Pushed self.old self.new (why_said why.entry) }
     {
         match why {
             Why::BranchUnknown(node) => {
@@ -73,7 +65,7 @@ impl<'a> Line<'a> {
             }
             Why::NoCase(value) => {
                 self.text(b"no case of the switch takes ");
-                self.integer(WORD, value);
+                self.integer(Ty::I64, value);
             }
             Why::StructTo(node) => {
                 self.text(b"a struct stored to ");
@@ -90,7 +82,7 @@ impl<'a> Line<'a> {
             }
             Why::NoWidth(name) => {
                 self.text(b"a store to ");
-                self.name(names, name);
+                self.name(name);
                 self.text(b", whose width the image does not say");
             }
             Why::StoreTo(node) => {
@@ -114,10 +106,9 @@ impl<'a> Line<'a> {
         self.text(b": ");
     }
 
-    pub fn stop(&mut self, names: Names, stop: Stop)
-        requires there { StopNamed (text_count names.body.now) stop }
-        requires room { Room self.old (stop_text (texts_in names.body.now) (stop_told stop)) }
-        ensures { Pushed self.old self.new (stop_text (texts_in names.entry.body.now) (stop_told stop)) }
+    pub fn stop(&mut self, stop: Stop)
+        requires { Room self.old (stop_said stop) }
+        ensures { Pushed self.old self.new (stop_said stop.entry) }
     {
         match stop {
             Stop::Returned(None) => self.text(b"returned"),
@@ -132,7 +123,7 @@ impl<'a> Line<'a> {
             }
             Stop::Unknown(address, why) => {
                 self.stopped(address);
-                self.why(names, why);
+                self.why(why);
             }
             Stop::NoBlock(block) => {
                 self.text(b"stopped: no block ");

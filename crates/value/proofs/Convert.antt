@@ -1,17 +1,18 @@
 -- A word that is congruent to an integer converts as the integer does. The arithmetic, one law for each operation.
 -- Assumes nothing.
-use Rattle.std.proofs.Common.{◌≡◌, ℕ, suc, ◌+◌, ◌-◌, ◌*◌, ◌/◌, ◌%◌, ◌^◌, ◌<◌, ◌≤◌, Bool, true, false, cond, not, ℤ, pos, negsuc, ◌+ℤ◌, ◌-ℤ◌, ◌*ℤ◌, nat_abs, sym, refl, ap, ◌∙◌, lt_of_le_of_lt, mod-eq_of_lt, div-le_self, arith}
+use Rattle.std.proofs.Common.{◌≡◌, ℕ, suc, ◌+◌, ◌-◌, ◌*◌, ◌/◌, ◌%◌, ◌^◌, ◌<◌, ◌≤◌, Bool, true, false, cond, not, ℤ, pos, negsuc, ◌+ℤ◌, ◌-ℤ◌, ◌*ℤ◌, nat_abs, sym, refl, ap, ◌∙◌, ◌==◌, ne_eqb, Option, None, Some, Ok, lt_of_le_of_lt, mod-eq_of_lt, div-le_self, arith}
 use mathlib.Core.Bool.{beq, false≢true}
 use native.Mathlib.Nat.{zero-mod}
 use lib.Bits.{and_le_r}
 use lib.Signed.{mag, quot_z, rem_z, shr_z}
 use mir.Val.{bool_byte}
+use Rattle.std.specs.Prelude.{SomeIff}
 use Rattle.value.specs.declared.Ty.{Ty}
 use Rattle.value.specs.declared.Val.{Val}
 use Rattle.value.specs.declared.Operands.{Operands}
 use Rattle.value.specs.Width.{width, low_bits, residue, is_negative, sized}
 use Rattle.value.specs.Value.{type_of_val, read_as, meaning, known_val, unknown_val, convert, cast_to}
-use Rattle.value.specs.Operators.{result_of, arithmetic, count_of}
+use Rattle.value.specs.Operators.{result_of, arithmetic, division, divided, count_of}
 use Rattle.value.proofs.Pick.{pick_true, pick_false}
 use Rattle.value.proofs.Residue.{residue_of, residue_fewer, residue_low, low_low, residue_add, residue_sub, residue_mul}
 use Rattle.value.proofs.Reading.{agree_read, bits_lt, read_minus, read_plus}
@@ -91,12 +92,23 @@ pub remainder_sized : (x y : ℤ) → sized (is_negative x) (nat_abs x % nat_abs
 remainder_sized (pos a) y = refl
 remainder_sized (negsuc a) y = refl
 
-module _ (p : Operands) where
-  pub quotient_is : result_of p (known_val (residue 64 (sized (not (beq (is_negative (read_as p.ty p.a)) (is_negative (read_as p.ty p.b)))) (nat_abs (read_as p.ty p.a) / nat_abs (read_as p.ty p.b)))) p.ty) ≡ arithmetic quot_z p
-  quotient_is = result_is p quot_z _ (word_is _ _ p.ty (ap (residue 64) (quotient_sized (read_as p.ty p.a) (read_as p.ty p.b))))
+-- a division by signs and magnitudes gives what the integers do
+divided_is : (p : Operands) (f : ℤ → ℤ → ℤ) (minus : Bool) (y magnitude : ℕ) (o : Option ℕ)
+    → sized minus magnitude ≡ f (read_as p.ty p.a) (read_as p.ty p.b) → y ≡ nat_abs (read_as p.ty p.b) → SomeIff o (0 < y) magnitude → divided p minus o ≡ division f p
+unfolding division divided
+divided_is p f minus y magnitude None e v h = let z : nat_abs (read_as p.ty p.b) ≡ 0 = omega (arith, h) in sym (rw z refl)
+divided_is p f minus y magnitude (Some n) e v h =
+    let t : (nat_abs (read_as p.ty p.b) == 0) ≡ false = ne_eqb _ _ (λ z. omega (arith, z, h.0)) in
+    ap Ok (result_is p f _ (word_is _ _ p.ty (ap (residue 64) (ap (sized minus) h.1 ∙ e)))) ∙ sym (rw t refl)
 
-  pub remainder_is : result_of p (known_val (residue 64 (sized (is_negative (read_as p.ty p.a)) (nat_abs (read_as p.ty p.a) % nat_abs (read_as p.ty p.b)))) p.ty) ≡ arithmetic rem_z p
-  remainder_is = result_is p rem_z _ (word_is _ _ p.ty (ap (residue 64) (remainder_sized (read_as p.ty p.a) (read_as p.ty p.b))))
+module _ (p : Operands) (o : Option ℕ) (x y : ℕ) where
+  pub quotient_is : (i j : Bool) → i ≡ is_negative (read_as p.ty p.a) → j ≡ is_negative (read_as p.ty p.b)
+      → x ≡ nat_abs (read_as p.ty p.a) → y ≡ nat_abs (read_as p.ty p.b) → SomeIff o (0 < y) (x / y) → divided p (not (beq i j)) o ≡ division quot_z p
+  quotient_is i j k l u v s = divided_is p quot_z _ y _ o (rw (k, l, u, v) (quotient_sized (read_as p.ty p.a) (read_as p.ty p.b))) v s
+
+  pub remainder_is : (i : Bool) → i ≡ is_negative (read_as p.ty p.a)
+      → x ≡ nat_abs (read_as p.ty p.a) → y ≡ nat_abs (read_as p.ty p.b) → SomeIff o (0 < y) (x % y) → divided p i o ≡ division rem_z p
+  remainder_is i k u v s = divided_is p rem_z _ y _ o (rw (k, u, v) (remainder_sized (read_as p.ty p.a) (read_as p.ty p.b))) v s
 
 -- ---- shifts
 

@@ -5,6 +5,9 @@ ghost use Rattle.value.specs.Encoding.{value_size, val_bytes, val_at};
 
 use super::Val;
 
+// The bytes of a value.
+pub const SIZE: usize = 14;
+
 // The value whose bytes start at an index.
 #[tactic(auto, using(crate::proofs::EncodingLaws::val_read))]
 pub fn get_val(s: &[u8], at: usize) -> Val

@@ -1,5 +1,7 @@
 // A case run, and whether all that comes of it is what the original answered.
 use crate::cases::{Case, Constant, Run, Store};
+use emulate::Answer;
+use files::refusal::Refusal;
 use std::alloc::Global;
 
 // Nowhere 0, so that a byte that was cleared is told from one that was left.
@@ -9,12 +11,7 @@ fn mark(i: usize) -> u8 {
 
 // A buffer to lend, and what it holds before a call.
 fn room(alloc: Global, size: usize) -> anyhow::Result<Vec<u8>> {
-    let mut room = Vec::new(alloc);
-    room.resize(size, 0)?;
-    for (i, byte) in room.iter_mut().enumerate() {
-        *byte = mark(i);
-    }
-    Ok(room)
+    Ok((0..size).map(mark).collect(alloc)?)
 }
 
 // Whether a buffer holds what was written to its front, and beyond it 0 or what it held before.
@@ -28,12 +25,12 @@ fn holds(part: &[u8], front: &[u8], cleared: bool) -> bool {
 }
 
 // Refusals that come after the run has begun leave nothing of it in either buffer.
-fn is_late(number: u8) -> bool {
-    number == 21 || number == 22
+fn is_late(number: u32) -> bool {
+    number == u32::from(Refusal::Addresses) || number == u32::from(Refusal::Record)
 }
 
 // Whether a workspace is as it must be after such an answer.
-fn is_left(workspace: &[u8], number: u8) -> bool {
+fn is_left(workspace: &[u8], number: u32) -> bool {
     holds(workspace, b"", number == 0 || is_late(number))
 }
 
@@ -49,9 +46,12 @@ fn run_agrees(alloc: Global, case: Run, store: &Store) -> anyhow::Result<bool> {
     );
     // Only number 0 has a record.
     let record: &[u8] = if case.number == 0 { &store.record } else { b"" };
+    let answer = Answer {
+        number: case.number,
+        length: u32::try_from(record.len())?,
+    };
     Ok(
-        found.number == case.number as u32
-            && found.length as usize == record.len()
+        found == answer
             && holds(&buffer, record, is_late(case.number))
             && is_left(&workspace, case.number),
     )
@@ -60,14 +60,7 @@ fn run_agrees(alloc: Global, case: Run, store: &Store) -> anyhow::Result<bool> {
 fn constant_agrees(alloc: Global, case: Constant, store: &Store) -> anyhow::Result<bool> {
     let mut workspace = room(alloc, case.workspace)?;
     let found = emulate::constant_value(&store.routine, case.node, &mut workspace);
-    Ok(
-        found.refusal == case.refusal as u32
-            && found.known == case.known
-            && found.signed == case.signed
-            && found.bits == case.bits
-            && found.number == case.number
-            && is_left(&workspace, case.refusal),
-    )
+    Ok(found == case.answer && is_left(&workspace, case.answer.refusal))
 }
 
 // Whether a case comes to what it says, with buffers of the lengths that it tells.

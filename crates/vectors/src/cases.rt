@@ -29,7 +29,7 @@ impl Store {
 pub struct Run {
     pub record: usize,
     pub workspace: usize,
-    pub number: u8,
+    pub number: u32,
 }
 
 // The value of a constant with a workspace of a length, and the answer.
@@ -37,11 +37,7 @@ pub struct Run {
 pub struct Constant {
     pub node: u32,
     pub workspace: usize,
-    pub refusal: u8,
-    pub known: bool,
-    pub signed: bool,
-    pub bits: u32,
-    pub number: u64,
+    pub answer: emulate::Constant,
 }
 
 #[derive(Clone, Copy)]
@@ -65,7 +61,7 @@ fn take_run(case: &mut &[u8], store: &mut Store) -> anyhow::Result<Run> {
     let run = Run {
         record: room(case)?,
         workspace: room(case)?,
-        number: case.try_get_u8()?,
+        number: case.try_get_u8()? as u32,
     };
     // Only number 0 has a record; else the last one stays.
     if run.number == 0 {
@@ -80,11 +76,13 @@ fn take_constant(case: &mut &[u8], store: &mut Store) -> anyhow::Result<Constant
     Ok(Constant {
         node: case.try_get_u32_le()?,
         workspace: room(case)?,
-        refusal: case.try_get_u8()?,
-        known: case.try_get_u8()? == 1,
-        signed: case.try_get_u8()? == 1,
-        bits: case.try_get_u32_le()?,
-        number: case.try_get_u64_le()?,
+        answer: emulate::Constant {
+            refusal: case.try_get_u8()? as u32,
+            known: case.try_get_u8()? == 1,
+            signed: case.try_get_u8()? == 1,
+            bits: case.try_get_u32_le()?,
+            number: case.try_get_u64_le()?,
+        },
     })
 }
 

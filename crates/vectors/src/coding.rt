@@ -5,18 +5,12 @@ use bytes::Buf;
 // The bytes of a sort are at most so many: the longest record buffer of the file has 110,173.
 pub const LONGEST: usize = 131072;
 
-// The next bytes, so many.
-pub fn next<'a>(from: &mut &'a [u8], count: usize) -> anyhow::Result<&'a [u8]> {
-    let (bytes, rest) = from.split_at_checked(count).context("the file ends early")?;
-    *from = rest;
-    Ok(bytes)
-}
-
 // A run of bytes: a number below 128 is one less than their count, another 127 more than a count of zeros.
 fn piece(case: &mut &[u8], file: &mut Vec<u8>) -> anyhow::Result<()> {
     let count = case.try_get_u8()? as usize;
     if count < 128 {
-        file.extend_from_slice(next(case, count + 1)?)?;
+        let bytes = case.split_off(..count + 1).context("the file ends early")?;
+        file.extend_from_slice(bytes)?;
     } else {
         ensure!(file.len() <= LONGEST, "a file is too long");
         file.resize(file.len() + (count - 127), 0)?;

@@ -1,8 +1,8 @@
 // The cases of the file, one after the other, each run and compared.
 use crate::cases::Store;
 use crate::tally::Tally;
-use crate::{answers, cases, coding};
-use anyhow::ensure;
+use crate::{answers, cases};
+use anyhow::{Context, ensure};
 use bytes::Buf;
 use std::alloc::Global;
 
@@ -11,16 +11,15 @@ const KIND: &[u8] = b"VEC1";
 
 // `VEC1`, the count of cases u32, and for each its length u32 and its bytes. A case that is not well made ends the program.
 pub fn replay(rt: &impl Print, alloc: Global, mut file: &[u8]) -> anyhow::Result<()> {
-    ensure!(
-        coding::next(&mut file, KIND.len())? == KIND,
-        "it is no file of cases"
-    );
+    let kind = file.split_off(..KIND.len()).context("the file ends early")?;
+    ensure!(kind == KIND, "it is no file of cases");
     let count = file.try_get_u32_le()?;
     let mut tally = Tally::default();
     let mut store = Store::new(alloc);
     for i in 0..count {
         let size = file.try_get_u32_le()? as usize;
-        let case = cases::take(coding::next(&mut file, size)?, &mut store)?;
+        let bytes = file.split_off(..size).context("the file ends early")?;
+        let case = cases::take(bytes, &mut store)?;
         let good = answers::agrees(alloc, case, &store)?;
         if !good {
             println!(rt; "not as the original answered: case {i}")?;

@@ -225,15 +225,23 @@ module _ {w w₁ : List ℕ} {n : ℕ} (is : n ≡ word_at (registers_part w) 3)
   paid_on l more e = record { aside = aside_aside less.aside more.aside; how = how_before more l ∙ how_before less (omega arith); counts = e }
 
 module _ {w w₁ w₂ : List ℕ} {b : Bool} {n k : ℕ} (some : 0 < (counts_in w).tally.left) (is : n ≡ word_at (registers_part w) 3) (less : SetsWord w 3 (n - 1) w₁) where
-  pub pays_block : b ≡ true → k ≡ word_at (registers_part w₁) 4 → SetsWord w₁ 4 (k + 1) w₂ → Pays b w w₂
-  pays_block e was more = paid_on is less (omega arith) more (entered_set more
+  block_paid : b ≡ true → k ≡ word_at (registers_part w₁) 4 → SetsWord w₁ 4 (k + 1) w₂ → Pays b w w₂
+  block_paid e was more = paid_on is less (omega arith) more (entered_set more
       ∙ ap₂ (λ (a : Counts) (m : ℕ). with_units (record { left = a.tally.left; entered = m + 1; steps = a.tally.steps }) a) (one_less is less) (was ∙ entered_word w₁ ∙ ap (λ (a : Counts). a.tally.entered) (one_less is less))
       ∙ paid_block (counts_in w) some e)
 
-  pub pays_statement : b ≡ false → k ≡ word_at (registers_part w₁) 5 → SetsWord w₁ 5 (k + 1) w₂ → Pays b w w₂
-  pays_statement e was more = paid_on is less (omega arith) more (steps_set more
+  statement_paid : b ≡ false → k ≡ word_at (registers_part w₁) 5 → SetsWord w₁ 5 (k + 1) w₂ → Pays b w w₂
+  statement_paid e was more = paid_on is less (omega arith) more (steps_set more
       ∙ ap₂ (λ (a : Counts) (m : ℕ). with_units (record { left = a.tally.left; entered = a.tally.entered; steps = m + 1 }) a) (one_less is less) (was ∙ steps_word w₁ ∙ ap (λ (a : Counts). a.tally.steps) (one_less is less))
       ∙ paid_statement (counts_in w) some e)
+
+  -- in the word that is picked
+  module _ {j : ℕ} (was : k ≡ word_at (registers_part w₁) j) (more : SetsWord w₁ j (k + 1) w₂) where
+    pub pays_block : b ≡ true → j ≡ 4 → Pays b w w₂
+    pays_block e z = block_paid e (was ∙ ap (word_at (registers_part w₁)) z) (subst (λ (j : ℕ). SetsWord w₁ j (k + 1) w₂) z more)
+
+    pub pays_statement : b ≡ false → j ≡ 5 → Pays b w w₂
+    pays_statement e z = statement_paid e (was ∙ ap (word_at (registers_part w₁)) z) (subst (λ (j : ℕ). SetsWord w₁ j (k + 1) w₂) z more)
 
 -- the workspace is in order after it
 module _ {w w' : List ℕ} {b : Bool} (pays : Pays b w w') where

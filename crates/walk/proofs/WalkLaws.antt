@@ -216,9 +216,12 @@ pub record Left (nodes symbols regions ss blocks : List ℕ) (f : Facts) (w₀ o
       → Runs (given nodes symbols regions (how_in w₀)) (λ x. walk_on P x.env limit (counts_in w).tally.left (place_of s)) w o (counts_in w) e w' o' a'
       → Runs (given nodes symbols regions (how_in w₀)) (λ x. walk_on P x.env limit (counts_in w₀).tally.left (walk.before 0)) w₀ o₀ (counts_in w₀) e w' o' a'
 
-pub begins : {nodes symbols regions ss blocks : List ℕ} {f : Facts} {w o : List ℕ} {s : Spot} → s ≡ record { block = 0; statement = None } → ReadyIn (given nodes symbols regions) w
+abbrev spot_at : Option ℕ → ℕ → Spot
+spot_at i b = record { block = b; statement = i }
+
+pub begins : {nodes symbols regions ss blocks : List ℕ} {f : Facts} {w o : List ℕ} {s : Spot} → (s.statement ≡ None) × (s.block ≡ 0) → ReadyIn (given nodes symbols regions) w
     → Rooted nodes ss blocks (blocks_part (tables w)) f.blocks → Balanced (counts_in w).tally → Left nodes symbols regions ss blocks f w o s w o
-begins {nodes} {symbols} {regions} {ss} {blocks} {f} {w} {o} is r all b = subst (λ (s : Spot). Left nodes symbols regions ss blocks f w o s w o) (sym is) (record {
+begins {nodes} {symbols} {regions} {ss} {blocks} {f} {w} {o} is r all b = subst (λ (s : Spot). Left nodes symbols regions ss blocks f w o s w o) (sym (ap₂ spot_at is.0 is.1)) (record {
   ready = r;
   how = refl;
   rooted = all;

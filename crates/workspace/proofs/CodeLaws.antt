@@ -1,5 +1,5 @@
 -- The codes of types: each type that a spelling names has one, from which it is read again. Assumes nothing.
-use mathlib.Core.Path.{◌≡◌, refl, sym, ap, ◌∙◌, subst}
+use mathlib.Core.Path.{◌≡◌, refl, sym, ap, ◌∙◌}
 use mathlib.Core.Bool.{Bool, true, false, not}
 use Rattle.std.specs.Prelude.{Option, None, Some}
 use Prim.Native.Nat.{ℕ, zero, suc, ◌+◌, ◌*◌, ◌/◌, ◌%◌, ◌≤◌, ◌<◌}
@@ -71,9 +71,6 @@ unfolding type_of_code
 type_made c = λ i. record { bits = c / 2 * 8; signed = flag_read (c % 2) i }
 
 -- what a pointer points at
-
-pub pointed_coded : (p : Option Ty) (t : Ty) → p ≡ Some t → CodedIf p → Coded t
-pointed_coded p t e h = subst CodedIf e h
 
 pub pointed_code : (p : Option Ty) (t : Ty) (c : ℕ) → p ≡ Some t → c ≡ code_of t → c ≡ code_if p
 unfolding code_if

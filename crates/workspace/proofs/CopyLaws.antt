@@ -1,7 +1,9 @@
 -- The variables copied out one slot after another, as a record's body has them. Assumes nothing.
 use mathlib.Core.Path.{◌≡◌, refl, sym, ap, ap₂, ◌∙◌}
 use mathlib.Core.List.{List, [], ◌∷◌, ◌++◌}
-use Rattle.std.specs.Prelude.{Option, None, Some}
+use mathlib.Core.Bool.{Bool, cond}
+use Rattle.std.specs.Prelude.{Option, None, Some, is_some, filter}
+use Rattle.std.specs.List.{range_with_len}
 use Prim.Native.Nat.{ℕ, zero, suc, ◌+◌, ◌-◌, ◌*◌, ◌≤◌, ◌<◌}
 use native.Mathlib.Nat.{zero-add, add-zero}
 use native.Mathlib.Numerals.{add-one}
@@ -81,12 +83,6 @@ module _ (w : List ℕ) (x : ℕ) (r : Option Val) (few : x < name_limit) (read 
   unset_at : r ≡ None → variable_at (frame_part w) x ≡ []
   unset_at e = ap (λ (o : Option Val). entry_if x o []) (slot_is ∙ e)
 
-  pub one_set : (v : Val) → r ≡ Some v → 1 ≡ length (variable_at (frame_part w) x)
-  one_set v e = sym (ap length (set_at v e))
-
-  pub none_set : r ≡ None → 0 ≡ length (variable_at (frame_part w) x)
-  none_set e = sym (ap length (unset_at e))
-
   -- a variable that is set is copied
   pub put_room : (v : Val) (out : List ℕ) (at : ℕ) → r ≡ Some v → at + length (variable_at (frame_part w) x) * variable_size ≤ length out → at + variable_size ≤ length out
   put_room v out at e h = omega (arith, h, ap length (set_at v e))
@@ -147,20 +143,25 @@ module _ (f out₀ out : List ℕ) (at x : ℕ) (i : Copying f out₀ out at x) 
       let b : before f x ≡ variables_in f = ap (before f) e ∙ before_all f in
       i.bytes ∙ ap₂ (λ (m : Overlay Val) (k : ℕ). variables_body m ++ drop k out₀) b (i.place ∙ ap (λ (m : Overlay Val). length m * variable_size) b)
 
--- ---- the variables of the first names are counted
+-- ---- the variables that are set, counted
 
-pub record Counting (f : List ℕ) (count x : ℕ) : Type 0 where
-  pub few : x ≤ name_limit
-  pub most : count ≤ x
-  pub same : count ≡ length (before f x)
+-- whether the variable x of the frame f is set
+abbrev pub is_set : List ℕ → ℕ → Bool
+is_set f x = is_some (find x (variables_in f))
 
-pub count_start : (f : List ℕ) → Counting f 0 0
-count_start f = record { few = omega arith; most = omega arith; same = rw (before_start f) }
+set_from : (f : List ℕ) (x n : ℕ) → x + n ≤ name_limit → length (filter (is_set f) (range_with_len x n)) ≡ length (those (slot_at f) x n)
+unfolding those
+set_from f x zero h = refl
+set_from f x (suc n) h =
+    let r = filter (is_set f) (range_with_len (x + 1) n) in
+    let more : length r ≡ length (those (slot_at f) (suc x) n) = rw add-one (set_from f (suc x) n (omega arith)) in
+    go (slot_at f x) (variables_find f x (omega arith)) more
+  where
+    go : (o : Option Val) → find x (variables_in f) ≡ o → length (filter (is_set f) (range_with_len (x + 1) n)) ≡ length (those (slot_at f) (suc x) n)
+        → length (filter (is_set f) (range_with_len x (suc n))) ≡ length (entry_if x o (those (slot_at f) (suc x) n))
+    go None e more = ap (λ (b : Bool). length (cond b (x ∷ filter (is_set f) (range_with_len (x + 1) n)) (filter (is_set f) (range_with_len (x + 1) n)))) (ap is_some e) ∙ more
+    go (Some v) e more = ap (λ (b : Bool). length (cond b (x ∷ filter (is_set f) (range_with_len (x + 1) n)) (filter (is_set f) (range_with_len (x + 1) n)))) (ap is_some e) ∙ ap suc more
 
-pub count_more : (f : List ℕ) (count x n : ℕ) → Counting f count x → x < name_limit → n ≡ length (variable_at f x) → n ≤ 1 → Counting f (count + n) (x + 1)
-count_more f count x n i h e l = record { few = omega arith; most = omega (arith, i.most); same = omega (arith, i.same, length_next f x, e) }
-
-pub count_done : (f : List ℕ) (count x : ℕ) → Counting f count x → name_limit ≤ x → count ≡ length (variables_in f)
-count_done f count x i h =
-    let e : x ≡ name_limit = omega (arith, i.few) in
-    i.same ∙ ap length (ap (before f) e ∙ before_all f)
+pub set_all : (f : List ℕ) → length (filter (is_set f) (range_with_len 0 name_limit)) ≡ length (variables_in f)
+unfolding variables_in
+set_all f = set_from f 0 name_limit (omega arith)

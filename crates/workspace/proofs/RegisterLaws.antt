@@ -117,28 +117,28 @@ module _ (w vs : List ℕ) (i : ℕ) (room : workspace_size ≤ length w) (fits 
         questions = drop_sets vs w (registers_place + i) questions_place (omega arith);
       }
 
-pub word_set : (w w' : List ℕ) (k x : ℕ) → workspace_size ≤ length w → k < word_count → x < 2 ^ 64 → w' ≡ put_number w (registers_place + k * 8) 8 x → SetsWord w k x w'
+pub word_set : (w : List ℕ) (k x : ℕ) → workspace_size ≤ length w → k < word_count → x < 2 ^ 64 → SetsWord w k x (put_number w (registers_place + k * 8) 8 x)
 unfolding put_number
-word_set w w' k x room few fits e =
+word_set w k x room few fits =
     let r = registers_part w in
     let l : registers_size ≤ length r = omega (arith, length_registers w room) in
     let b : k * 8 + length (le 8 x) ≤ registers_size = omega (arith, length_le 8 x) in
     let s = registers_stored w (le 8 x) (k * 8) room b in
-    rw e (record {
+    record {
       aside = aside_stored w (le 8 x) (k * 8) room b;
       here = rw s (word_here r k x l few fits);
       words = λ j h d. rw s (word_else r k x l few fits j d);
       values = λ j h. rw s (value_below r (le 8 x) (k * 8) j (omega (arith, length_le 8 x)));
-    })
+    }
 
-pub value_set : (w w' : List ℕ) (k : ℕ) (v : Val) → workspace_size ≤ length w → k < 2 → Whole v → w' ≡ sets w (registers_place + values_place + k * 16) (val_bytes v) → SetsValue w k v w'
-value_set w w' k v room few whole e =
+pub value_set : (w : List ℕ) (k : ℕ) (v : Val) → workspace_size ≤ length w → k < 2 → Whole v → SetsValue w k v (sets w (registers_place + values_place + k * 16) (val_bytes v))
+value_set w k v room few whole =
     let r = registers_part w in
     let i : registers_place + values_place + k * 16 ≡ registers_place + (values_place + k * 16) = omega arith in
     let l : registers_size ≤ length r = omega (arith, length_registers w room) in
     let b : values_place + k * 16 + length (val_bytes v) ≤ registers_size = omega (arith, length_val_bytes v) in
     let s = registers_stored w (val_bytes v) (values_place + k * 16) room b in
-    rw (e ∙ ap (λ (n : ℕ). sets w n (val_bytes v)) i) (record {
+    rw i (record {
       aside = aside_stored w (val_bytes v) (values_place + k * 16) room b;
       here = rw s (value_here r k v l few whole);
       words = λ j h. rw s (word_above r (val_bytes v) (values_place + k * 16) j (omega arith));

@@ -127,22 +127,22 @@ module _ (t : List ℕ) (x c : ℕ) (room : declared_size ≤ length t) (few : x
         | above k z ↦ number_below (declared_part t) (le 1 c) x y 1 (omega arith)
       ])
 
-pub declares : (w w' : List ℕ) (x c : ℕ) (t : Ty) → workspace_size ≤ length w → x < name_limit → Coded t → c ≡ code_of t → w' ≡ put_number w (tables_place + x) 1 c → Declares w x t w'
+pub declares : (w : List ℕ) (x c : ℕ) (t : Ty) → workspace_size ≤ length w → x < name_limit → Coded t → c ≡ code_of t → Declares w x t (put_number w (tables_place + x) 1 c)
 unfolding put_number type_at pointee_at code_if
-declares w w' x c t room few h p e =
+declares w x c t room few h p =
     let s = sets w (tables_place + x) (le 1 c) in
     let b : tables s ≡ sets (tables w) x (le 1 c) = tables_stored w (le 1 c) x room (omega arith) in
     let l : declared_size ≤ length (tables w) = omega (arith, length_tables w room) in
     let k : types_part (tables s) ≡ types_part (tables w) = ap types_part b ∙ before_types (tables w) (le 1 c) x (omega arith) in
     let small : c < 256 = omega (arith, p, code_small t h) in
-    rw e (record {
+    record {
       kept = tables_kept w (le 1 c) x room;
       here = ap (λ (z : List ℕ). declared_at z x) b ∙ declared_here (tables w) x c l few small ∙ ap type_if_code p ∙ if_back (Some t) h;
       others = λ y d. ap (λ (z : List ℕ). declared_at z y) b ∙ declared_else (tables w) x c l few y d;
       types = λ i. ap (λ (z : List ℕ). type_of_code (number_at z (i * 2) 1)) k;
       pointees = λ i. ap (λ (z : List ℕ). type_if_code (number_at z (i * 2 + 1) 1)) k;
       indexes = rw b (before_indexes (tables w) (le 1 c) x (omega arith));
-    })
+    }
 
 -- ---- a type put, with what it points at
 

@@ -21,31 +21,32 @@ pub mod variables;
 // The least workspace.
 pub const SIZE: usize = 65536;
 
-// Where the parts start. What is written to memory stands first; then a slot of 16 bytes for each of 512 names.
+// Where the parts start. What is written to memory stands first; then a slot for each name.
 pub const FRAME: usize = memory::PART;
 
 // The pending note.
-pub const NOTE: usize = FRAME + 8192;
+pub const NOTE: usize = FRAME + variables::BYTES;
 
 // What an evaluation hands on.
-pub const REGISTERS: usize = NOTE + 40;
+pub const REGISTERS: usize = NOTE + note::BYTES;
 
-// A type's code for each name, and two for each of 512 types.
-pub const DECLARED: usize = REGISTERS + 144;
+// A type's code for each name, and two for each type.
+pub const DECLARED: usize = REGISTERS + registers::BYTES;
 
-pub const TYPES: usize = DECLARED + 512;
+pub const TYPES: usize = DECLARED + variables::NAME_LIMIT;
 
 // The indexes of symbols, regions and blocks.
-pub const SYMBOLS: usize = TYPES + 1024;
+pub const SYMBOLS: usize = TYPES + types::BYTES;
 
-pub const REGIONS: usize = SYMBOLS + 1024;
+pub const REGIONS: usize = SYMBOLS + index::symbols::SYMBOLS;
 
-pub const BLOCKS: usize = REGIONS + 2522;
+pub const BLOCKS: usize = REGIONS + index::regions::REGIONS;
 
 // The questions that the first pass asks, as far as they fit.
-pub const QUESTIONS: usize = BLOCKS + 10920;
+pub const QUESTIONS: usize = BLOCKS + index::blocks::BLOCKS;
 
 // The low bytes of a number stored from an address on, the lowest first; addresses wrap.
+#[tactic(auto, unfolding(crate::specs::Parts::memory_part))]
 pub fn store_number(
     ws: &mut [u8],
     stored: usize,

@@ -6,6 +6,9 @@ ghost use Rattle.workspace.specs.View.{Changes, leaving, noting};
 
 use super::NOTE;
 
+// The bytes of a note: the flag, the count of names, at most 16 names (3 + 16 * 2), and up to a whole word.
+pub(crate) const BYTES: usize = 40;
+
 // Where the count of names stands, and the first name.
 const COUNT: usize = NOTE + 1;
 
@@ -37,6 +40,7 @@ pub fn start_note(ws: &mut [u8])
 }
 
 // One name more, after those that the note has.
+#[tactic(auto, using(crate::proofs::NoteLaws::name_room))]
 pub fn add_name(ws: &mut [u8], x: usize)
     requires { (workspace_size ≤ length ws.old) × (x < 65536) × Open (pending_in (note_part ws.old)) }
     ensures { Changes ws.old (noting x) ws.new }
@@ -47,7 +51,7 @@ pub fn add_name(ws: &mut [u8], x: usize)
     layout::put::<2>(ws, COUNT, count + 1);
 }
 
-// How many names the note has.
+// How many names the note has, 0 where there is no note.
 #[tactic(auto, using(crate::proofs::NoteLaws::counts_none, crate::proofs::NoteLaws::counts_names))]
 pub fn name_count(ws: &[u8]) -> usize
     requires { workspace_size ≤ length ws.now }

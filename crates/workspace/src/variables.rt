@@ -1,4 +1,7 @@
 // The variables: a slot of 16 bytes for each name.
+// A name goes by its number, and each function asks that it is one (`x < name_limit`), as `types` asks of a type's (`i < type_limit`): the number is read from a
+// node, and what accepts the nodes bounds it. A type with this fact would be made at each such read, by the same proof, and taken apart here: its clause would
+// be as long.
 ghost use Rattle.std.specs.Prelude.{◌≡◌, [], ◌∷◌, ◌++◌, ◌+◌, ◌*◌, ◌<◌, ◌≤◌, length, drop};
 ghost use Rattle.std.proofs.lemmas.List.Edits.{sets};
 ghost use Rattle.memory.specs.Overlay.{find};
@@ -13,13 +16,16 @@ use value::Val;
 use value::encoding::{get_val, put_val};
 
 // The most names.
-const NAME_LIMIT: usize = 512;
+pub(crate) const NAME_LIMIT: usize = 512;
 
 // The bytes of a slot: whether it is set, the value, one that is unused.
 const SLOT: usize = 16;
 
+// The bytes of all slots.
+pub(crate) const BYTES: usize = NAME_LIMIT * SLOT;
+
 // The bytes of a variable in a record: its name and the value.
-const VARIABLE: usize = 16;
+pub const VARIABLE: usize = 16;
 
 // The variable of a name, if it is set.
 #[tactic(auto, using(crate::proofs::FrameLaws::reads_unset, crate::proofs::FrameLaws::reads_set))]
@@ -28,10 +34,7 @@ pub fn variable(ws: &[u8], x: usize) -> Option<Val>
     ensures { result ≡ find x (variables_in (frame_part ws.now)) }
 {
     let at = FRAME + x * SLOT;
-    if layout::get::<1>(ws, at) == 0 {
-        return None;
-    }
-    Some(get_val(ws, at + 1))
+    (layout::get::<1>(ws, at) != 0).then(|| get_val(ws, at + 1))
 }
 
 pub fn set_variable(ws: &mut [u8], x: usize, v: Val)
@@ -43,29 +46,14 @@ pub fn set_variable(ws: &mut [u8], x: usize, v: Val)
     put_val(ws, at + 1, v);
 }
 
-// How many variables of a name are set: one or none.
-#[tactic(auto, using(crate::proofs::CopyLaws::one_set, crate::proofs::CopyLaws::none_set))]
-fn one_if_set(ws: &[u8], x: usize) -> usize
-    requires { (workspace_size ≤ length ws.now) × (x < name_limit) }
-    ensures { (result ≡ length (variable_at (frame_part ws.now) x)) × (result ≤ 1) }
-{
-    match variable(ws, x) {
-        Some(_) => 1,
-        None => 0,
-    }
-}
-
 // How many variables are set.
-#[tactic(auto, using(crate::proofs::CopyLaws::count_start, crate::proofs::CopyLaws::count_more, crate::proofs::CopyLaws::count_done))]
 pub fn variable_count(ws: &[u8]) -> usize
     requires { workspace_size ≤ length ws.now }
     ensures { result ≡ length (variables_in (frame_part ws.now)) }
 {
-    let mut count = 0;
-    for x in 0..NAME_LIMIT {
-        count += one_if_set(ws, x);
-    }
-    count
+    (0..NAME_LIMIT)
+        .filter(|x| variable(ws, *x).is_some())
+        .count()
 }
 
 // A variable in a record's bytes.
@@ -93,6 +81,7 @@ fn copy_variable(ws: &[u8], x: usize, out: &mut [u8], at: usize) -> usize
 }
 
 // The Variables body of a record, at the front of out.
+#[tactic(auto, using(crate::proofs::CopyLaws::copy_room, crate::proofs::CopyLaws::copy_done))]
 pub fn copy_variables(ws: &[u8], out: &mut [u8])
     requires { (workspace_size ≤ length ws.now) × (length (variables_in (frame_part ws.now)) * variable_size ≤ length out.old) }
     ensures { out.new ≡ variables_body (variables_in (frame_part ws.now)) ++ drop (length (variables_in (frame_part ws.now)) * variable_size) out.old }

@@ -1,16 +1,10 @@
 use native.Mathlib.Omega.{arith}
-use Rattle.passes.proofs.Files.{routine_fine, world_fine}
+use Rattle.passes.proofs.Files.{all_fine}
 use Rattle.emulate.proofs.Answering.{answers_21, first_ended, first_tabled, answers_on}
 use Rattle.emulate.proofs.run_accepted.Goals as goal
 
-pub set_tables-index-requires-clause-routine_accepted : goal.set_tables-index-requires-clause-routine_accepted
-set_tables-index-requires-clause-routine_accepted c = routine_fine c.args.files
-
-pub set_tables-index-requires-clause-world_accepted : goal.set_tables-index-requires-clause-world_accepted
-set_tables-index-requires-clause-world_accepted c = world_fine c.args.files
-
 pub returns-then-full : goal.returns-then-full
-returns-then-full c = answers_21 _ _ _ _ _ c.args.files.accepted c.requires _ _ _ _ _ _ _ c.is_full-full.ensures c.first_pass-r.ensures c.if-full.true _ _ (omega arith) (omega arith) c.clear_both.ensures
+returns-then-full c = answers_21 _ _ _ _ _ (all_fine c.args.files) c.requires _ _ _ _ _ _ _ c.is_full-full.ensures c.first_pass-r.ensures c.if-full.true _ _ (omega arith) (omega arith) c.clear_both.ensures
 
 pub run_on-requires-clause-tabled : goal.run_on-requires-clause-tabled
 run_on-requires-clause-tabled c = first_tabled _ _ _ _ _ _ _ _ _ c.is_full-full.ensures c.first_pass-r.ensures c.if-full.false c.set_tables-index.ensures.0
@@ -19,4 +13,4 @@ pub run_on-requires-clause-ended : goal.run_on-requires-clause-ended
 run_on-requires-clause-ended c = first_ended _ _ _ _ _ _ _ _ _ c.is_full-full.ensures c.first_pass-r.ensures c.if-full.false
 
 pub returns : goal.returns
-returns c = answers_on _ _ _ _ _ c.args.files.accepted c.requires _ _ _ _ _ _ _ c.is_full-full.ensures c.first_pass-r.ensures c.if-full.false _ _ _ _ (omega arith) (omega arith) c.run_on.ensures
+returns c = answers_on _ _ _ _ _ (all_fine c.args.files) c.requires _ _ _ _ _ _ _ c.is_full-full.ensures c.first_pass-r.ensures c.if-full.false _ _ _ _ (omega arith) (omega arith) c.run_on.ensures

@@ -1,10 +1,6 @@
-use Rattle.std.proofs.Common.{◌*◌, refl, arith}
-use Rattle.memory.specs.Entries.{entry_size}
-use Rattle.memory.proofs.PieceLaws.{slid, slid_by, slid_back, slid_nowhere}
+use Rattle.std.proofs.Common.{arith}
+use Rattle.memory.proofs.PieceLaws.{slid_by, slid_back}
 use Rattle.memory.proofs.slide.Goals as goal
-
-pub returns-in-0 : goal.returns-in-0
-returns-in-0 c = slid_nowhere c.args.part.now c.args.m.from c.args.m.to c.args.m.count c.requires.0 (omega (arith, c.in-0.is))
 
 pub returns-in-1 : goal.returns-in-1
 returns-in-1 c = slid_by c.args.part.now _ c.args.m.from c.args.m.to c.args.m.count 1 c.requires (omega (arith, c.in-1.is)) c.up.ensures
@@ -29,7 +25,3 @@ returns-in-4-wrapping_sub c = slid_back c.args.part.now _ c.args.m.from c.args.m
 
 pub returns-in-8-wrapping_sub : goal.returns-in-8-wrapping_sub
 returns-in-8-wrapping_sub c = slid_back c.args.part.now _ c.args.m.from c.args.m.to c.args.m.count 8 c.requires (omega (arith, c.in-8-wrapping_sub.is)) c.down-in-8-wrapping_sub.ensures
-
-pub returns-in_default-wrapping_sub : goal.returns-in_default-wrapping_sub
-returns-in_default-wrapping_sub c = let m = c.args.m in
-    slid c.args.part.now _ m.from m.to m.count (m.from * entry_size) (m.to * entry_size) c.requires refl refl c.copy_within.ensures.after

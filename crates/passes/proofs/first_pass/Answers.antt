@@ -6,6 +6,3 @@ use Rattle.passes.proofs.first_pass.Goals as goal
 
 pub pass-requires : goal.pass-requires
 pass-requires c = record { workspace_long = (search rules, omega (arith, length_part c.args.buffer.now c.min-start.result (omega arith))); tabled = search rules }
-
-pub returns : goal.returns
-returns c = search (rules, first_passed)

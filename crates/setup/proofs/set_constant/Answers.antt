@@ -1,4 +1,4 @@
--- `set_constant` meets its contract. Assumes nothing.
+-- `set_constant` meets its contract. (Named on the function, by `using`, its laws are not found.) Assumes nothing.
 use Rattle.setup.proofs.Readying.{constant_tabled}
 use borrow.Author.Rules.{rules}
 use Rattle.setup.proofs.set_constant.Goals as goal

@@ -1,4 +1,4 @@
--- `set_tables` meets its contract. Assumes nothing.
+-- `set_tables` meets its contract. (Named on the function, by `using`, its laws are not found.) Assumes nothing.
 use Rattle.setup.proofs.Readying.{types_coded, tabled, tabled_size}
 use borrow.Author.Rules.{rules}
 use Rattle.setup.proofs.set_tables.Goals as goal

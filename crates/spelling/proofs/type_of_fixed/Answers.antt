@@ -1,13 +1,7 @@
 use Rattle.std.proofs.Common.{sym, ap, ◌∙◌, Bool, not}
 use Rattle.std.specs.Prelude.{Some, is_some}
-use Rattle.spelling.proofs.Fixed.{flipped, fixed_type, size, signed_size, fixed}
+use Rattle.spelling.proofs.Fixed.{flipped, fixed_type, fixed}
 use Rattle.spelling.proofs.type_of_fixed.Goals as goal
-
-pub returns-then-is : goal.returns-then-is
-returns-then-is c = size c.args.unsigned c.args.w.now (sym c.is.ensures ∙ c.if-is.true)
-
-pub returns-then-is-2 : goal.returns-then-is-2
-returns-then-is-2 c = signed_size c.args.unsigned c.args.w.now (sym c.is-else-is.ensures ∙ c.if-is-2.true)
 
 pub returns-in-Some : goal.returns-in-Some
 returns-in-Some c =

@@ -1,8 +1,9 @@
-use borrow.Author.Rules.{rules}
-use Rattle.files.specs.Nodes.{fields_ok}
-use Rattle.files.proofs.ItemLaws.{every_not}
+use Rattle.std.proofs.Common.{rules, tests, arith, refl}
+use Rattle.std.proofs.lemmas.Iterator.{YieldsList-from_range}
+use Rattle.files.specs.Nodes.{field_ok, fields_ok}
+use Rattle.files.proofs.ItemLaws.{every_all}
 use Rattle.files.proofs.nodes.check.Goals as goal
 
-pub returns-then-not-check_node : goal.returns-then-not-check_node
+pub returns : goal.returns
 unfolding fields_ok
-returns-then-not-check_node c = search (rules, every_not)
+returns c = every_all (field_ok c.args.b.now c.args.bounds.names c.args.bounds.types) _ _ _ _ c.all.ensures.ran (YieldsList-from_range 0 _ _ refl (omega arith)) (λ x t q k. search (rules, tests))

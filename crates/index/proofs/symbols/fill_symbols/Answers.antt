@@ -4,7 +4,7 @@ use Rattle.std.proofs.Common.{◌≡◌, ◌+◌, ◌<◌, ◌^◌, length, refl
 use Rattle.files.specs.Program.{texts_in}
 use Rattle.index.specs.Texts.{text_count}
 use Rattle.index.proofs.TextPlaces.{names_texts}
-use Rattle.index.proofs.SymbolMerge.{merge_none, merge_passed, merge_room, merge_few, merge_more, merge_done}
+use Rattle.index.proofs.SymbolMerge.{starts, merge_none, merge_passed, merge_room, merge_few, merge_more}
 use Rattle.index.proofs.symbols.fill_symbols.Goals as goal
 use Rattle.index.proofs.symbols.fill_symbols.Goals.{After-into_iter-k-iterator}
 
@@ -29,7 +29,7 @@ loop-k-init-derived c =
     ((tt, tt, inl fits), tt)
 
 pub loop-k-init : goal.loop-k-init
-loop-k-init c = let i = (goal.at.loop-k-init c).After-into_iter-k-iterator in (merge_none c.requires.1.1.1 (whole i) (start i), refl)
+loop-k-init c = let i = (goal.at.loop-k-init c).After-into_iter-k-iterator in rw (starts _ c.default-cursor.ensures) (merge_none c.requires.1.1.1 (whole i) (start i), refl)
 
 pub seek-found-requires : goal.seek-found-requires
 seek-found-requires c = (
@@ -51,6 +51,3 @@ loop-k-preserved c = (
       c.requires.1.1.0 c.seek-found.ensures c.entry_of.ensures c.put.ensures c.in-Some.ensures.steps.2,
   search rules,
 )
-
-pub returns : goal.returns
-returns c = merge_done c.requires.0 c.requires.1.0 c.loop-k.invariant.0 c.in-None.ensures.steps.0.0

@@ -1,11 +1,8 @@
 -- `fill_texts` meets its contract. The loop's invariant: the text before which it stands is numbered by how many entries are made, and they are right.
--- Assumes nothing.
+-- Assumes nothing. (Named on the function, by `using`, the law of its end is not found beside the others: the search stops at its limits.)
 use Rattle.std.proofs.Common.{arith, rules}
-use Rattle.index.proofs.TextIndex.{texts_none, texts_few, text_fits, text_filled, texts_filled}
+use Rattle.index.proofs.TextIndex.{texts_few, text_fits, text_filled, texts_filled}
 use Rattle.index.proofs.texts.fill_texts.Goals as goal
-
-pub loop-text-init : goal.loop-text-init
-loop-text-init c = search (rules, texts_none)
 
 pub put-requires-clause-inside : goal.put-requires-clause-inside
 put-requires-clause-inside c = omega (arith, texts_few c.requires.0 c.loop-text.invariant.0 c.next.new.self.rest.now c.in-Some.ensures.steps, c.loop-text.invariant.0.room)

@@ -1,6 +1,6 @@
-use Rattle.std.proofs.Common.{refl, arith, rules}
-use Rattle.operations.proofs.Rows.{row_of_kids, over_at, over_more, over_on}
-use Rattle.operations.proofs.Taking.{so_far_start, so_far_fine, so_far_open, so_far_more, so_far_end}
+use Rattle.std.proofs.Common.{arith, rules}
+use Rattle.operations.proofs.Rows.{row_of_kids, over_at, over_more}
+use Rattle.operations.proofs.Taking.{so_far_start, so_far_fine, so_far_open, so_far_end}
 use Rattle.operations.proofs.calls.take_all.Goals as goal
 
 pub loop-i-init : goal.loop-i-init
@@ -11,12 +11,6 @@ take-requires c =
     let z = over_at c.loop-i.invariant c.in-Some.ensures.steps in
     let more = over_more c.loop-i.invariant c.in-Some.ensures.steps in
     record { workspace_long = search rules; fine = so_far_fine z more; note_open = so_far_open z more }
-
-pub loop-i-preserved : goal.loop-i-preserved
-loop-i-preserved c =
-    let o = c.loop-i.invariant in
-    let st = c.in-Some.ensures.steps in
-    over_on o st (so_far_more (over_at o st) (over_more o st) c.take.ensures refl)
 
 pub returns : goal.returns
 returns c = so_far_end c.loop-i.invariant.here (omega (arith, c.in-None.ensures.steps, c.loop-i.invariant.end)) c.start_note.ensures

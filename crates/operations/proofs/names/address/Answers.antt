@@ -1,6 +1,6 @@
 use Rattle.std.proofs.Common.{rules, refl}
 use Rattle.files.proofs.KindLaws.{of_kind, no_such}
-use Rattle.operations.proofs.Naming.{other_address, known_address, unknown_address_lem}
+use Rattle.operations.proofs.Naming.{other_address, known_address}
 use Rattle.operations.proofs.names.address.Goals as goal
 
 pub returns-then-not-is : goal.returns-then-not-is
@@ -8,6 +8,3 @@ returns-then-not-is c = other_address _ _ _ _ refl (no_such c.is.ensures c.if-no
 
 pub returns-in-Some : goal.returns-in-Some
 returns-in-Some c = known_address _ _ _ _ refl (of_kind c.is.ensures c.if-not-is.false) c.ask.ensures _ c.in-Some.is c.known.ensures c.is-in-Some.ensures
-
-pub returns-in-None : goal.returns-in-None
-returns-in-None c = unknown_address_lem _ _ _ _ refl (of_kind c.is.ensures c.if-not-is.false) c.ask.ensures c.in-None.is c.unknown-in-None.ensures

@@ -1,9 +1,5 @@
 use Rattle.std.proofs.Common.{rules}
-use Rattle.operations.proofs.Asking.{sent_room, sends_of}
 use Rattle.operations.proofs.names.tell.Goals as goal
 
-pub set_word-requires : goal.set_word-requires
-set_word-requires c = sent_room c.args.ws.now c.question_symbol.ensures c.requires
-
 pub returns : goal.returns
-returns c = search (rules, sends_of)
+returns c = c.send.ensures _ (record { sent = λ p q at next on h. search rules })

@@ -1,10 +1,7 @@
-use Rattle.std.proofs.Common.{refl, arith}
+use Rattle.std.proofs.Common.{refl}
 use Rattle.files.proofs.KindLaws.{of_kind, no_such}
 use Rattle.operations.proofs.Targeting.{targets_other, targets_under, targets_cast}
 use Rattle.operations.proofs.places.target_of.Goals as goal
-
-pub pointee-requires : goal.pointee-requires
-pointee-requires c = (c.requires.workspace_long, omega (arith, c.requires.n_bound (of_kind c.is.ensures c.if-is.true)))
 
 pub returns-in-Some : goal.returns-in-Some
 returns-in-Some c = targets_under _ _ _ _ _ refl (of_kind c.is.ensures c.if-is.true) _ c.reference.ensures.0 _ c.pointee.ensures _ c.in-Some.is refl refl

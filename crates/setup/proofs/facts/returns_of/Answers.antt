@@ -1,8 +1,7 @@
--- `returns_of` meets its contract. Assumes nothing.
-use Rattle.layout.proofs.TextLaws.{slices_same}
-use Rattle.setup.proofs.BodyFacts.{returns_as_lem}
+-- `returns_of` meets its contract. (Named on the function, by `using`, its laws are not found.) Assumes nothing.
+use Rattle.setup.proofs.BodyFacts.{types_texts, return_type}
 use borrow.Author.Rules.{rules}
 use Rattle.setup.proofs.facts.returns_of.Goals as goal
 
-pub returns : goal.returns
-returns c = search (rules, returns_as_lem, slices_same)
+pub text_numbered-text-requires : goal.text_numbered-text-requires
+text_numbered-text-requires c = search (rules, types_texts, return_type)

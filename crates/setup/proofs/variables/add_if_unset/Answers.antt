@@ -1,10 +1,9 @@
 -- `add_if_unset` meets its contract. Assumes nothing.
-use Rattle.setup.proofs.SettingLaws.{added_set, added_unset}
-use borrow.Author.Rules.{rules}
+use Rattle.setup.proofs.SettingLaws.{added_else, added_then}
 use Rattle.setup.proofs.variables.add_if_unset.Goals as goal
 
-pub returns-in-Some : goal.returns-in-Some
-returns-in-Some c = search (rules, added_set)
+pub returns-then-is_none : goal.returns-then-is_none
+returns-then-is_none c = added_then c.args.ws.now c.args.x c.args.ty c.variable.ensures c.is_none.ensures c.if-is_none.true c.unknown.ensures c.set_variable.ensures
 
-pub returns-in-None : goal.returns-in-None
-returns-in-None c = search (rules, added_unset)
+pub returns-else-is_none : goal.returns-else-is_none
+returns-else-is_none c = added_else c.args.ws.now c.args.x c.args.ty c.variable.ensures c.is_none.ensures c.if-is_none.false

@@ -7,7 +7,7 @@ use borrow.Author.Rules.{rules}
 use Rattle.setup.proofs.variables.set_parameters.Goals as goal
 
 pub each-requires-clause-callable : goal.each-requires-clause-callable
-each-requires-clause-callable c = start_callable _ _ _ _ c.args.call.now (λ u v w l. search rules) _ c.requires.1 (λ u v h n p e. search rules)
+each-requires-clause-callable c = start_callable _ _ _ _ c.args.call.bytes.now (λ u v w l. search rules) _ c.requires (λ u v h n p e. search rules)
 
 pub returns : goal.returns
-returns c = subst (λ (n : ℕ). StartsSome c.args.head.bytes.now c.args.call.now n c.args.ws.now c.each.new.ws) c.parameter_count-count.ensures.0 (started_each _ _ _ _ _ (λ u v w l. search rules) _ _ c.each.ensures)
+returns c = subst (λ (n : ℕ). StartsSome c.args.head.bytes.now c.args.call.bytes.now n c.args.ws.now c.each.new.ws) c.parameter_count-count.ensures.0 (started_each _ _ _ _ _ (λ u v w l. search rules) _ _ c.each.ensures)

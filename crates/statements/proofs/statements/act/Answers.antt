@@ -1,13 +1,6 @@
-use Rattle.statements.proofs.OutcomeLaws.{acting_strays, acting_halts, acting_does, acting_fails, gives_kind, halts_room}
+use Rattle.statements.proofs.OutcomeLaws.{acting_strays, acting_halts, acting_does, acting_fails}
 use Rattle.std.proofs.lemmas.Result.{err_from_is_err_and}
-use borrow.Author.Rules.{rules}
 use Rattle.statements.proofs.statements.act.Goals as goal
-
-pub give-requires : goal.give-requires
-give-requires c = search (rules, gives_kind)
-
-pub value-requires : goal.value-requires
-value-requires c = search (rules, halts_room)
 
 pub returns-in-Unreachable : goal.returns-in-Unreachable
 returns-in-Unreachable c = acting_strays c.requires.ready_in c.sort_of.ensures c.in-Unreachable.is

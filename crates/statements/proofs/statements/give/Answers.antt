@@ -1,13 +1,10 @@
-use Rattle.statements.proofs.OutcomeLaws.{acting_leaves, acting_gives, acting_short, give_kid}
+use Rattle.statements.proofs.OutcomeLaws.{acting_leaves, acting_gives, acting_short}
 use Rattle.std.proofs.lemmas.Result.{err_from_is_err_and}
 use borrow.Author.Rules.{rules}
 use Rattle.statements.proofs.statements.give.Goals as goal
 
 pub returns-then-span-eq1 : goal.returns-then-span-eq1
 returns-then-span-eq1 c = search (rules, acting_leaves)
-
-pub eval-requires : goal.eval-requires
-eval-requires c = record { ready_in = c.requires.ready_in; fine = give_kid c.requires.fine.1 c.requires.fine.0 c.span.ensures c.if-span-eq1.false }
 
 pub returns-in_err-v : goal.returns-in_err-v
 returns-in_err-v c = let p = err_from_is_err_and c.from_residual.result c.from_residual.ensures.1 in rw (p.1, p.2) (acting_short c.requires.ready_in c.requires.fine.1 c.requires.fine.0 c.span.ensures c.if-span-eq1.false c.eval.ensures c.in_err-v.was)

@@ -13,4 +13,4 @@ pub returns-else-has_note : goal.returns-else-has_note
 returns-else-has_note c = sent_on c.args.ws.now c.word-on.ensures (sent_plain c.args.site c.args.did _ (pending_in (note_part c.args.ws.now)) c.piece-s.ensures c.in-Nothing.is c.has_note.ensures c.if-has_note.false c.plain_step.ensures)
 
 pub returns-in_default : goal.returns-in_default
-returns-in_default c = sent_on c.args.ws.now c.word-on.ensures (sent_own c.args.site c.args.did _ (pending_in (note_part c.args.ws.now)) c.piece-s.ensures _ c.in_default.not-Nothing c.own_note.ensures c.noted_step.ensures)
+returns-in_default c = sent_on c.args.ws.now c.word-on.ensures (sent_own c.args.site c.args.did _ (pending_in (note_part c.args.ws.now)) c.piece-s.ensures c.in_default.not-Nothing c.noted_step.ensures)

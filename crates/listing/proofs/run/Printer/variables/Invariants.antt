@@ -1,7 +1,7 @@
 use Rattle.std.proofs.Common.{◌≡◌}
 use Rattle.std.specs.Slice.Iter.{chunks_exact_rest, chunks_exact_size}
 use Rattle.index.specs.Texts.{text_count}
-use Rattle.text.proofs.Listing.{VariablesLeft}
+use Rattle.text.specs.Left.{VariablesLeft}
 use Rattle.listing.proofs.run.Printer.variables.Given as goal
 
 abbrev pub invariant-loop-bytes : goal.invariant-loop-bytes

@@ -1,18 +1,19 @@
-use borrow.Author.Rules.{rules}
-use Rattle.text.proofs.StepText.{note_none, note_fields_lem, note_value, note_unknown, note_followed}
+use Rattle.std.proofs.Common.{ap₂, ◌∙◌}
+use Rattle.definition.specs.Act.{fields_written, value_written}
+use Rattle.text.proofs.StepText.{note_is, followed_is}
 use Rattle.text.proofs.bodies.StepBytes.note.Goals as goal
 
-pub returns-in-0 : goal.returns-in-0
-returns-in-0 c = note_none c.args.self.bytes.now c.get.ensures.number c.in-0.is
+pub returns-in-Nothing : goal.returns-in-Nothing
+returns-in-Nothing c = note_is c.args.self.bytes.now c.note_kind.ensures c.in-Nothing.is
 
-pub returns-in-1 : goal.returns-in-1
-returns-in-1 c = note_fields_lem c.args.self.bytes.now c.get.ensures.number c.in-1.is c.get-in-1.ensures.number c.get-in-1-2.ensures.number
+pub returns-in-Fields : goal.returns-in-Fields
+returns-in-Fields c = ap₂ fields_written c.get.ensures.number c.get-in-Fields.ensures.number ∙ note_is c.args.self.bytes.now c.note_kind.ensures c.in-Fields.is
 
-pub returns-in-2 : goal.returns-in-2
-returns-in-2 c = note_value c.args.self.bytes.now c.get.ensures.number c.in-2.is c.get-in-2.ensures.number c.get_val.ensures
+pub returns-in-Written : goal.returns-in-Written
+returns-in-Written c = ap₂ value_written c.get-in-Written.ensures.number c.get_val.ensures ∙ note_is c.args.self.bytes.now c.note_kind.ensures c.in-Written.is
 
-pub returns-in-3 : goal.returns-in-3
-returns-in-3 c = note_unknown c.args.self.bytes.now c.get.ensures.number c.in-3.is
+pub returns-in-Unknown : goal.returns-in-Unknown
+returns-in-Unknown c = note_is c.args.self.bytes.now c.note_kind.ensures c.in-Unknown.is
 
-pub returns-in_default : goal.returns-in_default
-returns-in_default c = note_followed c.args.self.bytes.now c.get.ensures.number (search rules)
+pub returns-in-NotFollowed : goal.returns-in-NotFollowed
+returns-in-NotFollowed c = followed_is c.args.self.bytes.now c.note_kind.ensures c.in-NotFollowed.is

@@ -1,7 +1,5 @@
 use Rattle.text.proofs.PutLaws.{pushed_then}
-use Rattle.text.specs.Lines.{stop_line}
 use Rattle.text.proofs.line.Line.stop_line.Goals as goal
 
 pub returns : goal.returns
-unfolding stop_line
 returns c = pushed_then c.text.ensures (pushed_then c.stop.ensures c.text-2.ensures)

@@ -4,4 +4,4 @@ use Rattle.text.proofs.ValueText.{value_known}
 use Rattle.text.proofs.line.Line.value.Goals as goal
 
 pub returns : goal.returns
-returns c = pushed_as (pushed_then c.integer.ensures c.beside.ensures) (value_known c.args.v (search rules))
+returns c = pushed_as (pushed_then c.integer.ensures c.beside.ensures) (value_known c.args.v c.ty.ensures (search rules))

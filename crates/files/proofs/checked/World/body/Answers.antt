@@ -1,0 +1,7 @@
+-- (Named on the function, by `using`, the law is not found: in the goal its `k` stands in sums alone.)
+use Rattle.files.proofs.Accepted.{world_body}
+use borrow.Author.Rules.{rules}
+use Rattle.files.proofs.checked.World.body.Goals as goal
+
+pub body-requires : goal.body-requires
+body-requires c = search (rules, world_body)

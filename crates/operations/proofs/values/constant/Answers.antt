@@ -1,6 +1,0 @@
-use Rattle.operations.proofs.Answering.{gives_as}
-use Rattle.std.proofs.Common.{rules}
-use Rattle.operations.proofs.values.constant.Goals as goal
-
-pub returns : goal.returns
-returns c = search (rules, gives_as)

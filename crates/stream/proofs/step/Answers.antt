@@ -1,7 +1,0 @@
-use Rattle.stream.proofs.StepLaws.{length_step}
-use Rattle.stream.proofs.StreamLaws.{sent}
-use borrow.Author.Rules.{rules}
-use Rattle.stream.proofs.step.Goals as goal
-
-pub returns : goal.returns
-returns c = sent _ _ _ _ _ _ _ (search (rules, length_step)) c.send.ensures (λ p. search rules)
