@@ -1,4 +1,5 @@
-// The two entries: a run of a lifted routine, written as a record, and the value of a constant expression of one.
+// The two entries: a run of a lifted routine, written as a record, and the value of a constant expression of one. (What is asked of the workspace stands in clauses,
+// as in `passes`, which says why.)
 #![tactic(auto)]
 
 mod constants;

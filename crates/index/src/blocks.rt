@@ -1,4 +1,5 @@
 // A routine's blocks by number, and the fields of blocks and statements. The index: for each block, in two bytes each, its place and its first statement.
+// A block goes by its place beside all blocks, as a node by its number in `files::nodes`: its bytes alone would be cut for each field.
 ghost use Rattle.std.specs.Prelude.{◌≡◌, ◌+◌, ◌-◌, ◌*◌, ◌≤◌, ◌<◌, length, get_or};
 ghost use Rattle.std.specs.Iterator.{at_most};
 ghost use Rattle.layout.specs.Number.{number_at};

@@ -1,6 +1,6 @@
 // The bytes of a world at an address. The index: for every fourth region, in two bytes, its place.
-// A count of its entries stands beside the part: this is a fixed place with room for the most, so that its length does not tell; and to cut it for each load
-// would cost each load a comparison.
+// A count of its entries stands beside the part: this is a fixed place with room for the most, so that its length does not tell. So does how many bytes are asked
+// for: the body has more.
 ghost use Rattle.std.specs.Prelude.{◌≡◌, ◌+◌, ◌-◌, ◌≤◌, ◌<◌, length};
 ghost use Rattle.std.specs.Iterator.{at_most};
 ghost use Rattle.layout.specs.Number.{number_at};
@@ -135,10 +135,7 @@ pub fn read(regions: &[u8], part: &[u8], count: usize, address: u64, size: usize
     requires { (RegionsIndexed regions.now part.now count) × (size ≤ 8) }
     ensures { ReadFrom regions.now address size result }
 {
-    let mut image = Image {
-        count: 0,
-        number: 0,
-    };
+    let mut image = Image::default();
     if count == 0 {
         return image;
     }

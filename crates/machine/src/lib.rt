@@ -2,7 +2,7 @@
 // Results go on in the workspace's registers: a member gives Some where there is one, None where it ends short, which `?` hands on.
 // From sibling to sibling a member goes by a loop: the stack grows with a tree's depth alone.
 // What is only read goes from member to member by one reference, a word: by value it would take six, and room for them in each caller's frame.
-// A node goes by its number beside it, as in `files::nodes`, which says why.
+// A node goes by its number beside it, as in `files::nodes`, which says why, and `ws` and `out` side by side as in `operations`.
 // Each member says anew that the workspace is ready for what is read, and the node one of a tree, of a kind: these join two values each, of which one changes.
 // A clause names a kind by its number, which is what the bytes have and the definition's `kind_of` gives.
 #![tactic(auto)]

@@ -1,7 +1,9 @@
 -- The turns of the search for a rank: a stretch parted in quarters, and how far an address can be from the first entry and the last. Assumes nothing.
-use Rattle.std.proofs.Common.{◌≡◌, ℕ, zero, suc, ◌+◌, ◌-◌, ◌*◌, ◌^◌, ◌<◌, ◌≤◌, min, Bool, true, false, ltb, [], ◌∷◌, length, sym, refl, ap, ◌∙◌, subst, le_of_lt, add_assoc, suc-add, zero-add, sub-add_cancel, arith, ltb-false, ltb-true}
+use Rattle.std.proofs.Common.{◌≡◌, ℕ, zero, suc, ◌+◌, ◌-◌, ◌*◌, ◌^◌, ◌<◌, ◌≤◌, min, Bool, true, false, ltb, [], ◌∷◌, length, sym, refl, ap, ◌∙◌, subst, le_of_lt, suc-le-suc, add_assoc, suc-add, zero-add, sub-add_cancel, arith, ltb-false, ltb-true}
 use native.Mathlib.Nat.{min-eq_left, min-eq_right}
 use mir.Val.{bool_byte}
+use Rattle.std.specs.Prelude.{Option, None, Some}
+use Rattle.std.specs.Option.{MatchOption, unwrap_or}
 use Rattle.memory.specs.Overlay.{Overlay, Cell, rank, Ascending}
 use Rattle.memory.specs.Post.{IsOverlay, Parts, Lies, address_in, passed}
 use Rattle.memory.proofs.OverlayLaws.{below, equal, above, compared, key, each_at, rank_below, rank_above}
@@ -125,3 +127,18 @@ near m q a n f l x y e z first last h k ex ey =
     let least : n - 1 - y ≤ rank a m = rw ey (at_least m q.ascending (n - 1) a f l top first last k (l - a) (sub-add_cancel k)) in
     let fits : x < length m = omega arith in
     (record { low = least; high = most; within = omega arith; row = q }, fits)
+
+-- ---- the first of some places that comes after an address, whose rank it is
+
+pub not_past : (m : Overlay Cell) (a i x : ℕ) → Parts m i x → a < x → rank (suc a) m ≤ i
+not_past m a i x p h = p.down (suc a) h
+
+pub is_past : (m : Overlay Cell) (a i x : ℕ) → Parts m i x → x ≤ a → i < rank (suc a) m
+is_past m a i x p h = p.up (suc a) (suc-le-suc h)
+
+pub first_past : (k from count : ℕ) (r : Option ℕ) → from ≤ k → k ≤ count
+    → MatchOption r ((j : ℕ) → from ≤ j → j < count → j < k) (λ i. (from ≤ i) × (i < count) × (k ≤ i) × ((j : ℕ) → from ≤ j → j < i → j < k)) → unwrap_or r count ≡ k
+first_past k from count None l h f =
+    elim (compared k count) [ below m _ ↦ absurd (omega (arith, f k l m)) | equal m _ ↦ sym m | above m _ ↦ absurd (omega arith) ]
+first_past k from count (Some i) l h f =
+    elim (compared k i) [ below m _ ↦ absurd (omega (arith, f.3 k l m)) | equal m _ ↦ sym m | above m _ ↦ absurd (omega (arith, f.2)) ]

@@ -2,7 +2,7 @@
 // A count of the entries stands beside the part: this is a fixed place with room for more of them on both sides, so that its length does not tell.
 // Each function asks that they are sorted. A struct of both with that fact was tried. As a field, the fact has to hold at each write through the reference, and
 // it does not while entries move; by value, no proof is made where one function hands the struct to another; as a model, callers learn nothing of their bytes
-// at the end, and its clauses are a tenth longer.
+// at the end, and its clauses are a tenth longer. (`bytes` is how many of a number's are meant.)
 #![tactic(auto)]
 
 ghost use Rattle.std.specs.Prelude.{◌≡◌, ◌+◌, ◌-◌, ◌*◌, ◌^◌, ◌<◌, ◌≤◌, ◌++◌, length, take, drop};
@@ -38,7 +38,7 @@ const FEW: usize = 64;
 pub struct Full;
 
 // What the image answered to a `read`: how many bytes, and their little-endian number.
-#[derive(Clone, Copy)]
+#[derive(Clone, Copy, Default)]
 pub struct Image {
     pub count: usize,
     pub number: u64,
@@ -129,7 +129,7 @@ fn up<const PLACES: usize>(part: &mut [u8], n: usize)
     }
 }
 
-// n bytes come down by so many entries, to the front.
+// n bytes come down by so many entries, to the front. (A loop, and n beside the bytes, as in `up`.)
 fn down<const PLACES: usize>(part: &mut [u8], n: usize)
     requires { n + PLACES * entry_size ≤ length part.old }
     ensures { part.new ≡ sets part.old 0 (take n (drop (PLACES * entry_size) part.old)) }

@@ -78,8 +78,8 @@ impl<'a> Row<'a> {
         self.between(least, most, address)
     }
 
-    // How many entries come before an address, 0 where none does. Entries are at least one apart, so that an address is no farther from the first one and from the last one, in
-    // entries, than its distance from theirs.
+    // How many entries come before an address, 0 where none does. Entries are at least one apart, so that an address is no farther from the first one and from the
+    // last one, in entries, than its distance from theirs.
     // (Inlined, since a call would write the row to memory first.)
     #[inline(always)]
     #[tactic(auto, using(crate::proofs::OverlayLaws::rank_most))]
@@ -105,17 +105,13 @@ impl<'a> Row<'a> {
     }
 
     // How many entries come before the address past the last one, if at least so many do.
-    #[tactic(auto, using(crate::proofs::OverlayLaws::rank_most))]
     pub fn past(&self, from: usize, last: u64) -> usize
         requires { from ≤ rank (suc last) self.now }
         ensures { result ≡ rank (suc last) self.now }
     {
         let count = self.len();
-        for i in from..count {
-            if last < self.address(i) {
-                return i;
-            }
-        }
-        count
+        (from..count)
+            .find(|i| last < self.address(*i))
+            .unwrap_or(count)
     }
 }

@@ -13,7 +13,7 @@ impl<'a> Accepted<'a> {
     ghost use Rattle.std.specs.Prelude.{◌≡◌, MatchResult};
     ghost use Rattle.files.specs.Refusal.{refusal, refusal_number};
 
-    // The files, or what refuses them.
+    // The files, or what refuses them. (`files::check` says as much of files whose values nobody wants.)
     #[tactic(auto, unfolding(files::specs::Refusal::refusal))]
     pub fn check(
         routine: &'a [u8],

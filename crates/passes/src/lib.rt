@@ -1,6 +1,7 @@
 // What writes a record: the walk over a routine, and the bodies. The first pass writes the steps, counts the questions' bytes and keeps the questions beside the
 // tables. If they do not fit there, a second pass writes them.
-// (`Tabled`, and that the workspace is long enough, are clauses: they are of the workspace, which each call changes.)
+// (`Tabled`, and that the workspace is long enough, are clauses: they are of the workspace, which each call changes. `index` goes beside `files`, since it tells
+// of both that and them. `second` is which pass it is, and `ws` and `out` go side by side as in `operations`.)
 #![tactic(auto)]
 
 pub mod accepted;

@@ -1,4 +1,5 @@
-// A workspace made ready: tables of a routine and a world, made once, and the variables at the start and at the end of a run.
+// A workspace made ready: tables of a routine and a world, made once, and the variables at the start and at the end of a run. (Its length is a clause, as in
+// `workspace`, which says why.)
 #![tactic(auto)]
 
 ghost use Rattle.std.specs.Prelude.{◌≡◌, [], ◌≤◌, length};

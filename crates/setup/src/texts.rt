@@ -9,10 +9,7 @@ ghost use Rattle.setup.specs.Post.{Finds, Spells};
 
 use index::texts::texts;
 use spelling::{points_at, type_of};
-use workspace::types::put_type;
-
-// The most types.
-const TYPES: usize = 512;
+use workspace::types::{TYPE_LIMIT, put_type};
 
 // Text k.
 pub fn text_numbered(body: &[u8], k: usize) -> &[u8]
@@ -37,7 +34,7 @@ pub fn put_types(types: &[u8], ws: &mut [u8])
 {
     let unspelled = type_of(b"");
     let mut rest = texts(types);
-    for i in 0..TYPES {
+    for i in 0..TYPE_LIMIT {
         let (ty, pointee) = match rest.next() {
             Some(text) => (type_of(text), points_at(text)),
             None => (unspelled, None),

@@ -1,5 +1,5 @@
 // What a statement of a block does and the step that it writes, where a terminator leads, and why a run stops.
-// The layer below the walk: it spends no unit, and knows no order of the blocks.
+// The layer below the walk: it spends no unit, and knows no order of the blocks. (`ws` and `out` go side by side as in `operations`, which says why.)
 #![tactic(auto)]
 
 pub mod statements;

@@ -42,7 +42,7 @@ pub enum Sort {
     Plain,
 }
 
-// Whether a name is one that a routine may have.
+// Whether a name is one that a routine may have. (A function for the definition's name.)
 fn is_name(one: Option<usize>, name: usize) -> bool
     ensures { result ≡ is_name one name }
 {

@@ -22,7 +22,7 @@ fn stopping(kind: Kind, address: Option<u64>, number: u64, value: Val) -> StopPi
     }
 }
 
-// The number, the node and the name, of which one is what a reason names.
+// The number, the node and the name, of which one is what a reason names. (Nested as the definition's.)
 fn named(reason: Reason, n: u64) -> (u64, (u64, u64))
     ensures { result ≡ named reason n }
 {

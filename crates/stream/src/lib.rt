@@ -19,7 +19,7 @@ use layout::put;
 use value::Val;
 use value::encoding::{self, put_val};
 
-// The cursor after a piece of n bytes: past the most that 64 bits tell it does not go.
+// The cursor after a piece of n bytes: past the most that 64 bits tell it does not go. (A function for the definition's name.)
 #[tactic(auto, unfolding(crate::specs::Stream::advanced))]
 fn advance(at: u64, n: u64) -> u64
     ensures { result ≡ advanced at n }
@@ -100,7 +100,7 @@ fn put_bytes(part: &mut [u8], at: usize, from: &[u8], n: usize)
     part[at..at + n].copy_from_slice(&from[..n]);
 }
 
-// ---- questions
+// ---- questions (their fields one by one, as the definition's entries have them)
 
 // What is asked of a symbol, by the record's numbers.
 #[derive(Clone, Copy, PartialEq, Eq)]
@@ -182,7 +182,7 @@ fn put_read(part: &mut [u8], at: usize, address: u64, size: u64, count: u64, num
     put_low(part, at + 11, count as usize, number);
 }
 
-// `read`, with the answered bytes as a count and a little-endian number. (Two parameters, as the definition's entry has them: who has an `Image` has both.)
+// `read`, with the answered bytes as a count and a little-endian number.
 #[tactic(auto, using(crate::proofs::StreamLaws::sent, crate::proofs::QuestionLaws::length_read))]
 pub fn question_read(
     out: &mut [u8],

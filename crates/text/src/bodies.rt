@@ -250,8 +250,8 @@ impl<'a> StopBytes<'a> {
         get::<4>(self.bytes, 19)
     }
 
-    // The kind of the stop; a number that is no kind's is taken for the last. (This, `reason` and a step's `note_kind` have one form: a function of the three would be
-    // given the type, the place and the last, and say no less.)
+    // The kind of the stop; a number that is no kind's is taken for Halted. (This, `reason` and a step's `note_kind` have one form: a function of the three would
+    // be given the type, the place and what other numbers are taken for, and say no less.)
     #[tactic(auto, using(crate::proofs::StopText::kind_is))]
     fn kind(self) -> Kind
         ensures { result ≡ kind_in self.entry.bytes.now }

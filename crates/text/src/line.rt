@@ -43,7 +43,7 @@ impl<'a> Line<'a> {
         self.at = end;
     }
 
-    // The last digits of a number, so many, from the right.
+    // The last digits of a number, so many, from the right. (By how many are left of it, which is what the digits are told by.)
     fn last(&mut self, number: u64, base: Base, count: usize)
         requires { Room self.old (last_digits count base.of number) }
         ensures { Pushed self.old self.new (last_digits count base.of number) }

@@ -81,10 +81,6 @@ pub fn spelled(mut row: &[u8]) -> anyhow::Result<bool> {
     let spelling = &text[..length];
     let ty = take_type(&mut row)?;
     let pointee = take_type(&mut row)?;
-    let points = if pointee.bits == 0 {
-        None
-    } else {
-        Some(pointee)
-    };
+    let points = (pointee.bits != 0).then_some(pointee);
     Ok(spelling::type_of(spelling) == ty && spelling::points_at(spelling) == points)
 }

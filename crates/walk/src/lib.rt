@@ -1,8 +1,8 @@
 // The walk over a routine's blocks, one unit at a time: a block is entered or a statement run, and the terminator that follows costs nothing.
 // Clauses that come again: `ReadyIn`, `Rooted` and `Balanced` are of the workspace, which each call changes, so that no type can hold them; `Placing` is of a
 // place in the bodies (statements::terminators says why it is a clause); `RootsOf` is a part of `Rooted`, so that a ghost field of `Bodies` would say it again.
-// They name the bodies one by one, since each is of others of the five: `Settles` of all, `RunsAt` of four, `Placing` and `Rooted` of three, `Turns` of two.
-// `ws` and `out` go side by side as in `operations`, which says why.
+// They name the bodies one by one, since each is of others of the five: `Settles` of all, `RunsAt` of four, `Placing` and `Rooted` of three, `Turns` of two
+// beside the reads as one. `ws` and `out` go side by side as in `operations`, and the length of `ws` is a clause as in `workspace`: they say why.
 #![tactic(auto)]
 
 ghost use Rattle.std.specs.Prelude.{◌≡◌, ℕ, Some, None, ◌+◌, ◌*◌, ◌<◌, ◌≤◌, length};
@@ -104,7 +104,7 @@ fn left(ws: &[u8]) -> u64
     registers::word(ws, results::LEFT)
 }
 
-// A unit is spent, on a block or on a statement.
+// A unit is spent, on a block or on a statement: which of the two is all that is asked.
 #[tactic(auto, using(operations::proofs::Registers::left_word, operations::proofs::Registers::entered_word, operations::proofs::Registers::steps_word))]
 fn pay(ws: &mut [u8], block: bool)
     requires workspace_long { workspace_size ≤ length ws.old }

@@ -11,7 +11,7 @@ use super::{DECLARED, TYPES};
 use value::Ty;
 
 // The most types, and the bytes of the codes of one: its own, and that of what it points at.
-const TYPE_LIMIT: usize = 512;
+pub const TYPE_LIMIT: usize = 512;
 
 const CODES: usize = 2;
 
