@@ -2,7 +2,7 @@
 use Rattle.std.proofs.Common.{◌≡◌, ℕ, ◌<◌, List, Some, sym, ap, ◌∙◌, subst, arith}
 use Rattle.files.specs.Program.{Trees}
 use Rattle.files.specs.Spells.{next}
-use Rattle.hosting.specs.Stands.{KidsAt, no_kid, a_kid, FineArgs, FieldsAt, no_field, a_field}
+use Rattle.hosting.specs.Stands.{KidsAt, no_kid, a_kid, FieldsAt, no_field, a_field}
 use Rattle.hosting.proofs.Shapes.{inside}
 use Rattle.operations.specs.Rows.{Row, row_past, row_node, Steps}
 use Rattle.operations.specs.declared.siblings.Siblings.{Siblings}
@@ -14,9 +14,6 @@ row_of_fields (a_field lt i k l h z f) = row_node i (row_of_fields f)
 pub row_of_kids : {b : List ℕ} {n e : ℕ} {ts : Trees} → KidsAt b n e ts → Row b n e
 row_of_kids no_kid = row_past (omega arith)
 row_of_kids (a_kid lt h f) = row_node (inside h) (row_of_kids f)
-
-pub row_of_args : {b : List ℕ} {n e k : ℕ} → FineArgs b n e k → Row b n e
-row_of_args f = row_of_kids f.spells
 
 row_on : {b : List ℕ} {n e : ℕ} → n < e → Row b n e → Row b (next b n) e
 row_on lt (row_past le) = absurd (omega (arith, lt, le))

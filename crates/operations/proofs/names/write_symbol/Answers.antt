@@ -1,6 +1,5 @@
 use Rattle.std.proofs.Common.{rules, ap, is_some}
 use Rattle.operations.proofs.Naming.{name_below, asked_room, symbol_fails, symbol_stores, symbol_unstored}
-use Rattle.std.proofs.Common.{rules, ap, is_some}
 use Rattle.operations.proofs.names.write_symbol.Goals as goal
 
 pub set_variable-requires : goal.set_variable-requires
