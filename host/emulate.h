@@ -42,16 +42,18 @@ extern "C" {
 /* The shortest record: a run without steps, variables, written bytes and questions. */
 #define EMULATE_RECORD_LEAST 99
 
-/* Bytes of stack that a call needs at most, on the calling thread: 26,583 were measured with the
+/* Bytes of stack that a call needs at most, on the calling thread: 25,711 were measured with the
  * deepest and the widest routines (stack.c). */
 #define EMULATE_STACK_NEEDED 32768
 
 /* ---- The numbers of an answer */
 
-/* The lowest number that applies is given. What each leaves in the buffers:
+/* The first that applies is given, in this order: 1 to 4; 5, 30 and 31 node by node (a node is
+ * tested for 5, then 30, then 31, and only then the next one); 6 to 9; 20 to 22.
+ * What each leaves in the buffers:
  * - 0: the record stands at the start of its buffer, and the buffer beyond it is unchanged; the
  *   workspace is zero throughout.
- * - 1 to 9 and 20: both buffers are untouched.
+ * - 1 to 9, 20, 30 and 31: both buffers are untouched.
  * - 21 and 22: both buffers are zero throughout.
  * "Throughout" is the whole lent length, also where the workspace is longer than needed. */
 enum emulate_refusal {
@@ -60,19 +62,29 @@ enum emulate_refusal {
     EMULATE_REFUSED_NAMES = 2,   /* the routine's names */
     EMULATE_REFUSED_TYPES = 3,   /* its types */
     EMULATE_REFUSED_HEAD = 4,    /* its head */
-    EMULATE_REFUSED_NODE = 5,    /* a node's kind, or a field that its kind does not allow */
+    EMULATE_REFUSED_KIND = 5,    /* a node's kind is unknown: 20 or more */
     EMULATE_REFUSED_TREES = 6,   /* the nodes' body length, spans, child counts, depth, fields */
     EMULATE_REFUSED_BLOCKS = 7,  /* statements, blocks, or a root that is no node or is a field */
     EMULATE_REFUSED_WORLD = 8,   /* the world file */
     EMULATE_REFUSED_CALL = 9,    /* the call file; in constant_value a node as in 7 */
     EMULATE_WORKSPACE_SHORT = 20, /* the workspace is under 65,536 bytes */
     EMULATE_ADDRESSES_OVER = 21,  /* the run writes over 4,096 distinct addresses */
-    EMULATE_RECORD_LONG = 22      /* the record is longer than its buffer or than 2^32 - 1 bytes */
+    EMULATE_RECORD_LONG = 22,     /* the record is longer than its buffer or than 2^32 - 1 bytes */
+    EMULATE_REFUSED_BARRED = 30,  /* a Constant's width, a flag or a reference that the kind bars */
+    EMULATE_REFUSED_UNUSED = 31   /* a field that the node's kind does not use is not 0 */
 };
+
+/* Whether a refusal tells a node beside its number: the lowest one that is not as it must be. */
+static inline bool emulate_tells_node(uint32_t number)
+{
+    return number == EMULATE_REFUSED_KIND || number == EMULATE_REFUSED_BARRED
+        || number == EMULATE_REFUSED_UNUSED;
+}
 
 /* ---- The entries */
 
-/* 0 and the record's length in bytes, or a refusal's number and 0. */
+/* 0 and the record's length in bytes, or a refusal's number and, for 5, 30 and 31, the number of
+ * the lowest faulty node, counted from 0 over the whole file, else 0. */
 struct emulate_answer {
     uint32_t number;
     uint32_t length;
@@ -92,7 +104,8 @@ struct emulate_answer run(const uint8_t *routine, size_t routine_length,
                           uint8_t *workspace, size_t workspace_length);
 
 /* A refusal's number (0 for none), and the value: every other field is 0 (false) after a refusal
- * and where the node has no known value. */
+ * and where the node has no known value, but that after 5, 30 and 31 `number` is the number of the
+ * lowest faulty node. */
 struct emulate_constant {
     uint32_t refusal;
     bool known;
@@ -275,13 +288,14 @@ static inline struct emulate_bytes emulate_after(struct emulate_bytes bytes, siz
     return bytes;
 }
 
-/* The record that a run left in its buffer; no bytes after a refusal. */
+/* The record that a run left in its buffer; no bytes after a refusal, whose `length` may be a
+ * node's number. */
 static inline struct emulate_bytes emulate_record(const uint8_t *buffer,
                                                   struct emulate_answer answer)
 {
     struct emulate_bytes record;
     record.first = buffer;
-    record.length = answer.length;
+    record.length = answer.number == EMULATE_RAN ? answer.length : 0;
     return record;
 }
 

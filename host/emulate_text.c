@@ -17,7 +17,7 @@ const char *emulate_refusal_text(uint32_t number)
         "the routine's names are wrong",
         "the routine's types are wrong",
         "the routine's head is wrong",
-        "a node has an unknown kind, or a field that its kind does not allow",
+        "a node has an unknown kind",
         "the nodes are no trees: a span, a child count, the depth or a field's place is wrong",
         "the statements or blocks are wrong, or a root is no node or is a field",
         "the world file is wrong or too long",
@@ -28,9 +28,15 @@ const char *emulate_refusal_text(uint32_t number)
         "the run writes over 4,096 addresses",
         "the record is longer than its buffer",
     };
+    static const char *const nodes[] = {
+        "a node has a width, a flag or a reference that its kind does not allow",
+        "a node has a field that is not 0 and that its kind does not use",
+    };
     if (number < 20)
         return text_of(input, sizeof input / sizeof *input, number);
-    return text_of(state, sizeof state / sizeof *state, number - 20);
+    if (number < 30)
+        return text_of(state, sizeof state / sizeof *state, number - 20);
+    return text_of(nodes, sizeof nodes / sizeof *nodes, number - 30);
 }
 
 const char *emulate_stop_text(uint32_t kind)

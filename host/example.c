@@ -219,7 +219,10 @@ int main(int count, char **words)
         return 2;
     answer = run(routine.bytes, routine.length, world.bytes, world.length, call.bytes, call.length,
                  record, sizeof record, workspace, sizeof workspace);
-    printf("number: %" PRIu32 ", %s\n", answer.number, emulate_refusal_text(answer.number));
+    printf("number: %" PRIu32 ", %s", answer.number, emulate_refusal_text(answer.number));
+    if (emulate_tells_node(answer.number))
+        printf(": node %" PRIu32, answer.length);
+    printf("\n");
     if (answer.number != EMULATE_RAN)
         return 1;
     print_record(emulate_record(record, answer));

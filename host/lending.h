@@ -127,15 +127,23 @@ static inline struct emulate_answer go(const char *name, size_t record_length,
     return answer;
 }
 
-/* 1 to 9 and 20 leave both buffers untouched. */
-static inline void refused(const char *name, uint32_t number, size_t record_length,
-                    size_t workspace_length)
+/* 1 to 9, 20, 30 and 31 leave both buffers untouched; 5, 30 and 31 tell a node. */
+static inline void refused_at(const char *name, uint32_t number, uint32_t node,
+                              size_t record_length, size_t workspace_length)
 {
     struct emulate_answer answer = go(name, record_length, workspace_length);
     CHECK(answer.number == number);
-    CHECK(answer.length == 0);
+    CHECK(answer.length == node);
+    CHECK(emulate_record(lent(&record), answer).length == 0);
     CHECK(untouched(&record, 0));
     CHECK(untouched(&workspace, 0));
+}
+
+/* The other numbers tell 0. */
+static inline void refused(const char *name, uint32_t number, size_t record_length,
+                    size_t workspace_length)
+{
+    refused_at(name, number, 0, record_length, workspace_length);
 }
 
 /* 21 and 22 leave both zero throughout. */

@@ -135,6 +135,9 @@ static void test_nodes(void)
         constant(&parts, 1, 1);
     finish_files(10, NULL, 0);
     ran("nodes", LEAST + STEP, LONGEST, 65536);
+    parts.nodes.bytes[20 * (count - 1)] = 20;
+    finish_files(10, NULL, 0);
+    refused_at("the last node of unknown kind", 5, count - 1, LONGEST, 65536);
     constant(&parts, 1, 1);
     finish_files(10, NULL, 0);
     refused("a node more", 1, LONGEST, 65536);

@@ -201,13 +201,24 @@ static void test_integers(void)
 
 /* ---- Texts */
 
-/* Below `count` each number has a text of its own, but for those from `gap` to 19. */
-static void check_texts(const char *(*text)(uint32_t), uint32_t count, uint32_t gap)
+static bool always(uint32_t number)
+{
+    (void)number;
+    return true;
+}
+
+static bool is_refusal(uint32_t number)
+{
+    return number < 10 || (number >= 20 && number < 23) || number >= 30;
+}
+
+/* Below `count` each number of a sort has a text of its own. */
+static void check_texts(const char *(*text)(uint32_t), uint32_t count, bool (*of_sort)(uint32_t))
 {
     uint32_t i, j;
     for (i = 0; i < count; i++) {
         bool none = strcmp(text(i), "no such number") == 0;
-        CHECK(none == (i >= gap && i < 20));
+        CHECK(none == !of_sort(i));
         for (j = 0; j < i && !none; j++)
             CHECK(strcmp(text(i), text(j)) != 0);
     }
@@ -218,10 +229,28 @@ static void check_texts(const char *(*text)(uint32_t), uint32_t count, uint32_t 
 static void test_texts(void)
 {
     now = "texts";
-    check_texts(emulate_refusal_text, 23, 10);
-    check_texts(emulate_stop_text, 8, 8);
-    check_texts(emulate_reason_text, 10, 10);
-    check_texts(emulate_note_text, 6, 6);
+    check_texts(emulate_refusal_text, 32, is_refusal);
+    check_texts(emulate_stop_text, 8, always);
+    check_texts(emulate_reason_text, 10, always);
+    check_texts(emulate_note_text, 6, always);
+    CHECK(strstr(emulate_refusal_text(5), "kind") != NULL);
+    CHECK(strstr(emulate_refusal_text(30), "width") != NULL);
+    CHECK(strstr(emulate_refusal_text(31), "not 0") != NULL);
+}
+
+/* What an answer's second number is: the record's length, a node, or nothing. */
+static void test_answers(void)
+{
+    struct emulate_answer answer = { 0, 257 };
+    uint32_t number;
+    now = "answers";
+    CHECK(emulate_record(record.bytes, answer).length == 257);
+    for (number = 1; number < 40; number++) {
+        answer.number = number;
+        CHECK(emulate_record(record.bytes, answer).length == 0);
+        CHECK(emulate_tells_node(number) == (number == 5 || number == 30 || number == 31));
+    }
+    CHECK(!emulate_tells_node(0));
 }
 
 int main(void)
@@ -235,5 +264,6 @@ int main(void)
     check_short_parts(made);
     test_integers();
     test_texts();
+    test_answers();
     return outcome("readers");
 }

@@ -103,7 +103,6 @@ static void test_faults(void)
     refused_by_byte("names out of order", &parts.names, 1, 'z', 2);
     refused_by_byte("a type with a byte under 0x20", &parts.types, 1, 0x1f, 3);
     refused_by_byte("more parameters than variables", &parts.head, 12, 3, 4);
-    refused_by_byte("kind 20", &parts.nodes, 0, 20, 5);
     refused_by_byte("a root past the nodes", &parts.statements, 9, 9, 7);
     world.length = 0;
     refused("two faults", 7, 257, 65535);
@@ -186,12 +185,19 @@ static struct emulate_constant constant_of(const char *name, uint32_t number, si
     return answer;
 }
 
-static void no_constant(const char *name, uint32_t number, size_t length, uint32_t refusal)
+/* No value, and a refusal's number with the node that it tells. */
+static void no_constant_at(const char *name, uint32_t number, size_t length, uint32_t refusal,
+                           uint32_t node)
 {
     struct emulate_constant answer = constant_of(name, number, length);
     CHECK(answer.refusal == refusal);
-    CHECK(!answer.known && !answer.is_signed && answer.bits == 0 && answer.number == 0);
+    CHECK(!answer.known && !answer.is_signed && answer.bits == 0 && answer.number == node);
     CHECK(refusal == 0 || refusal == 21 ? zero(&workspace) : untouched(&workspace, 0));
+}
+
+static void no_constant(const char *name, uint32_t number, size_t length, uint32_t refusal)
+{
+    no_constant_at(name, number, length, refusal, 0);
 }
 
 static void is_constant(const char *name, uint32_t number, size_t length,
@@ -294,6 +300,99 @@ static void test_stores(void)
     cleared("4,097 addresses in a statement", 21, LONGEST, 65536);
 }
 
+/* ---- Nodes: 5, 30 and 31 tell the lowest that is not as it must be */
+
+/* A byte of a node of `trim`, and what is put there. A node has kind u8, flag u8, ref u16, width
+ * u32, span u32, value u64. */
+struct spoilt {
+    unsigned node, at, byte;
+};
+
+enum { AT_KIND = 0, AT_FLAG = 1, AT_REF = 2, AT_WIDTH = 4, AT_SPAN = 8, AT_VALUE = 12 };
+
+struct faulty {
+    const char *what;
+    struct spoilt first, second;
+    uint32_t number, node;
+};
+
+#define ALONE(node, at, byte) { node, at, byte }, { node, at, byte }
+
+/* The nodes: Assign, Var, Binary, Var, Constant; from 5 on Return, Binary, Var, Constant. */
+static const struct faulty barred = { "a Constant of 9 bytes", ALONE(8, AT_WIDTH, 9), 30, 8 };
+
+static const struct faulty faults[] = {
+    { "kind 20", ALONE(0, AT_KIND, 20), 5, 0 },
+    { "kind 255 in the last node", ALONE(8, AT_KIND, 255), 5, 8 },
+    { "a Constant of no byte", ALONE(4, AT_WIDTH, 0), 30, 4 },
+    { "operator 18", ALONE(2, AT_FLAG, 18), 30, 2 },
+    { "a name past the last", ALONE(1, AT_REF, 3), 30, 1 },
+    { "a Var with a flag", ALONE(7, AT_FLAG, 1), 31, 7 },
+    { "an Assign with a ref", ALONE(0, AT_REF + 1, 1), 31, 0 },
+    { "a Binary with a width", ALONE(6, AT_WIDTH + 3, 1), 31, 6 },
+    { "a Return with a value", ALONE(5, AT_VALUE + 7, 1), 31, 5 },
+    { "5 and 30 on a node", { 3, AT_KIND, 20 }, { 3, AT_REF, 3 }, 5, 3 },
+    { "5 and 31 on a node", { 8, AT_KIND, 20 }, { 8, AT_FLAG, 1 }, 5, 8 },
+    { "30 and 31 on a node", { 2, AT_FLAG, 18 }, { 2, AT_VALUE, 1 }, 30, 2 },
+    { "31, then 5", { 3, AT_WIDTH, 1 }, { 4, AT_KIND, 20 }, 31, 3 },
+    { "31, then 30", { 5, AT_FLAG, 1 }, { 8, AT_WIDTH, 9 }, 31, 5 },
+    { "30, then 5", { 1, AT_REF, 3 }, { 8, AT_KIND, 20 }, 30, 1 },
+    { "30, then 31", { 4, AT_WIDTH, 9 }, { 5, AT_FLAG, 1 }, 30, 4 },
+    { "5, then 30", { 2, AT_KIND, 20 }, { 4, AT_WIDTH, 9 }, 5, 2 },
+    { "a span, then 5", { 0, AT_SPAN, 9 }, { 8, AT_KIND, 20 }, 5, 8 },
+    { "a span, then 30", { 0, AT_SPAN, 9 }, { 8, AT_WIDTH, 9 }, 30, 8 },
+    { "31, then a span", { 3, AT_FLAG, 1 }, { 8, AT_SPAN, 0 }, 31, 3 },
+    { "a span", ALONE(8, AT_SPAN, 0), 6, 0 },
+};
+
+static void spoil(const struct spoilt *s)
+{
+    parts.nodes.bytes[20 * s->node + s->at] = (uint8_t)s->byte;
+}
+
+static void make_faulty(const struct faulty *f)
+{
+    make_trim();
+    spoil(&f->first);
+    spoil(&f->second);
+    finish(&parts, &routine);
+}
+
+/* A `constant_value` is refused as a run is, whatever node is asked for. */
+static void test_faulty(const struct faulty *f)
+{
+    make_faulty(f);
+    refused_at(f->what, f->number, f->node, 257, 65536);
+    refused_at(f->what, f->number, f->node, 0, 0);
+    no_constant_at(f->what, 0, 65536, f->number, f->node);
+    no_constant_at(f->what, UINT32_MAX, 0, f->number, f->node);
+    world.length = call.length = 0;
+    refused_at(f->what, f->number, f->node, 257, 65536);
+}
+
+static void test_nodes(void)
+{
+    size_t i;
+    test_faulty(&barred);
+    for (i = 0; i < sizeof faults / sizeof *faults; i++)
+        test_faulty(&faults[i]);
+}
+
+/* A node cut off is no node; those before it are looked at. */
+static void test_cut_nodes(void)
+{
+    const struct spoilt before = { 4, AT_WIDTH, 0 };
+    make_faulty(&barred);
+    parts.nodes.length--;
+    finish(&parts, &routine);
+    refused("a faulty node cut off", 6, 257, 65536);
+    no_constant("a faulty node cut off", 0, 65536, 6);
+    spoil(&before);
+    finish(&parts, &routine);
+    refused_at("a faulty node before one that is cut off", 30, 4, 257, 65536);
+    no_constant_at("a faulty node before one that is cut off", 0, 65536, 30, 4);
+}
+
 /* ---- Threads: each with buffers of its own, over the same files */
 
 #define THREADS 4
@@ -388,5 +487,11 @@ int main(int count, char **words)
     test_long_files();
     test_fold();
     test_stores();
+    test_nodes();
+    test_cut_nodes();
+    if (folder != NULL) {
+        make_faulty(&barred);
+        write_files(folder, "barred");
+    }
     return outcome("test");
 }

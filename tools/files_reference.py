@@ -1,22 +1,23 @@
 #!/usr/bin/env python3
-"""A second reading of document 01's "The files" and "From the input", and the cases that hold the checks to it.
+"""A second reading of document 01's "The files" and "From the input", with document 02's A1, and the cases that hold the checks to it.
 
-It was written from the paper alone. `refusal` and `constant_refusal` give the number by which files are refused, or 0. The cases build each file
-from a description, damage it by the smallest change that breaks a sentence, and stand beside the just accepted neighbour of the damage. Each
-case says its number too, so that a slip in this reading shows.
+It was written from the papers alone. `refusal` and `constant_refusal` give the number by which files are refused, or 0, and the number of the
+faulty node after 5, 30 and 31, else 0. The cases build each file from a description, damage it by the smallest change that breaks a sentence, and
+stand beside the just accepted neighbour of the damage. Each case says its numbers too, so that a slip in this reading shows.
 
     tools/files_reference.py            write crates/files_cases/data/cases.bin and crates/files_cases/stdout
-    tools/files_reference.py --list     print each case with its number
+    tools/files_reference.py --list     print each case with its numbers
 
-cases.bin: pages of 65,536 bytes, each of whole cases and then zeros. A case is its name (length u8, bytes), the expected number u8, 0 and three
-files or 1, a node u32 and one file. A file is a count u16 of pieces, and each piece is how often it stands there u32, its length u32, its bytes.
-All numbers are little-endian.
+cases.bin: pages of 65,536 bytes, each of whole cases and then zeros. A case is its name (length u8, bytes), the expected number u8 and node u32,
+then 0 and three files, or 1, the node of a `constant_value` u32 and one file. A file is a count u16 of pieces, and each piece is how often it
+stands there u32, its length u32, its bytes. All numbers are little-endian.
 """
 import struct
 import sys
 from pathlib import Path
 
 PAGE = 65536
+ACCEPTED = (0, 0)
 ROOT = Path(__file__).resolve().parent.parent / "crates" / "files_cases"
 
 
@@ -77,17 +78,43 @@ class Node:
         self.kind, self.flag, self.ref, self.width, self.span, self.value = struct.unpack_from("<BBHIIQ", b, 20 * k)
 
 
-def node_ok(n, names, types):
-    """5: the kind is one of the twenty, and each field is as the kind has it."""
-    if n.kind > 19:
-        return False
-    flags = {2: 255, 7: 1, 12: 17}
-    refs = {1: names, 4: names, 15: names, 8: types, 18: types, 2: 65536}
-    widths = {0: (1, 8), 2: (0, 0xffffffff)}
-    values = {0, 2, 4, 18}
-    low, high = widths.get(n.kind, (0, 0))
-    return (n.flag <= flags.get(n.kind, 0) and n.ref < refs.get(n.kind, 1) and low <= n.width <= high
-            and (n.kind in values or n.value == 0))
+# the fields that a kind uses; a kind that is not here uses none of the four
+USED = {0: ("width", "value"), 1: ("ref",), 2: ("flag", "ref", "width", "value"), 4: ("ref", "value"), 7: ("flag",), 8: ("ref",), 12: ("flag",),
+        15: ("ref",), 18: ("ref", "value")}
+
+
+def known(n):
+    """Else 5."""
+    return n.kind <= 19
+
+
+def allowed(n, names, types):
+    """The width, the flag and the reference of the kinds that bar some. Else 30."""
+    flags = {7: 1, 12: 17}
+    refs = {1: names, 4: names, 15: names, 8: types, 18: types}
+    return (n.kind != 0 or 1 <= n.width <= 8) and n.flag <= flags.get(n.kind, n.flag) and n.ref < refs.get(n.kind, n.ref + 1)
+
+
+def unused_are_0(n):
+    """Else 31."""
+    return all(getattr(n, field) == 0 for field in ("flag", "ref", "width", "value") if field not in USED.get(n.kind, ()))
+
+
+def node_number(n, names, types):
+    if not known(n):
+        return 5
+    if not allowed(n, names, types):
+        return 30
+    return 0 if unused_are_0(n) else 31
+
+
+def nodes_refusal(nodes, names, types):
+    """The lowest faulty node decides."""
+    for k, n in enumerate(nodes):
+        number = node_number(n, names, types)
+        if number:
+            return number, k
+    return ACCEPTED
 
 
 def children(kind):
@@ -162,22 +189,23 @@ def blocks_ok(b, nodes, statements):
 def routine_refusal(f):
     parts = bodies(f, 6)
     if parts is None:
-        return 1
+        return 1, 0
     names, types = names_of(parts[0]), types_of(parts[1])
     if names is None:
-        return 2
+        return 2, 0
     if types is None:
-        return 3
+        return 3, 0
     if not head_ok(parts[2], len(names), len(types)):
-        return 4
+        return 4, 0
     nodes = [Node(parts[3], k) for k in range(len(parts[3]) // 20)]
-    if not all(node_ok(n, len(names), len(types)) for n in nodes):
-        return 5
+    found = nodes_refusal(nodes, len(names), len(types))
+    if found != ACCEPTED:
+        return found
     if not trees_ok(parts[3], nodes):
-        return 6
+        return 6, 0
     if not statements_ok(parts[4], nodes) or not blocks_ok(parts[5], nodes, len(parts[4]) // 13):
-        return 7
-    return 0
+        return 7, 0
+    return ACCEPTED
 
 
 def symbols_ok(b, names):
@@ -217,20 +245,20 @@ def call_ok(f):
 
 
 def refusal(routine, world, call):
-    number = routine_refusal(routine)
-    if number:
-        return number
+    found = routine_refusal(routine)
+    if found != ACCEPTED:
+        return found
     if not world_ok(world):
-        return 8
-    return 0 if call_ok(call) else 9
+        return 8, 0
+    return ACCEPTED if call_ok(call) else (9, 0)
 
 
 def constant_refusal(routine, node):
-    number = routine_refusal(routine)
-    if number:
-        return number
+    found = routine_refusal(routine)
+    if found != ACCEPTED:
+        return found
     b = bodies(routine, 6)[3]
-    return 0 if is_root([Node(b, k) for k in range(len(b) // 20)], node) else 9
+    return ACCEPTED if is_root([Node(b, k) for k in range(len(b) // 20)], node) else (9, 0)
 
 
 # ---- descriptions of files
@@ -357,13 +385,34 @@ def many(count, size=3):
 CASES = []
 
 
-def run(name, number, r=None, w=None, c=None):
+def run(name, number, r=None, w=None, c=None, node=0):
     files = [routine() if r is None else r, world() if w is None else w, call() if c is None else c]
-    CASES.append((name, number, None, files))
+    CASES.append((name, (number, node), None, files))
 
 
-def constant(name, number, node, r=None):
-    CASES.append((name, number, node, [routine() if r is None else r]))
+def constant(name, number, asked, r=None, node=0):
+    CASES.append((name, (number, node), asked, [routine() if r is None else r]))
+
+
+def small(name, number, nodes, node=0, names=None, types=None):
+    """A case of its nodes, in as few bytes as it can have."""
+    run(name, number, only(nodes, names, types), file_of([b""] * 3), call(arguments=()), node)
+
+
+# how many children a kind must have
+FEWEST = {CAST: 1, DEREF: 1, ADDRESS: 1, TERNARY: 3, BINARY: 2, ASSIGN: 2, CALL: 1, FIELD: 1}
+
+
+def one(name, number, kind, names=None, types=None, **k):
+    """A case of one node in question, with what must be under it and over it."""
+    nodes, node = tree(kind, *[X] * FEWEST.get(kind, 0), **k), 0
+    if kind == FIELD:
+        nodes, node = tree(STRUCT, nodes), 1
+    small(name, number, nodes, node if number else 0, names, types)
+
+
+# a node for each number that tells one
+FAULTY = {5: tree(20), 30: tree(CONSTANT, width=9), 31: tree(PLAIN, value=1)}
 
 
 def tables():
@@ -511,29 +560,104 @@ def fields():
         "width": ({CONSTANT: 8, REGISTER: 2 ** 32 - 1}, 2 ** 32 - 1),
         "value": ({k: 2 ** 64 - 1 for k in (CONSTANT, REGISTER, FUNCTION, FIELD)}, 2 ** 64 - 1),
     }
-    kids = {CAST: [X], DEREF: [X], ADDRESS: [X], TERNARY: [X, X, X], BINARY: [X, X], ASSIGN: [X, X], CALL: [X], FIELD: [X]}
     for kind in range(20):
         for field, (limits, top) in most.items():
-            def nodes(value):
-                t = tree(kind, *kids.get(kind, []), **{field: value})
-                return only(tree(STRUCT, t) if kind == FIELD else t)
-            limit = limits.get(kind, 0)
-            run("kind %d: %s %d" % (kind, field, limit), 0, nodes(limit))
-            if limit < top:
-                run("kind %d: %s %d" % (kind, field, limit + 1), 5, nodes(limit + 1))
-                run("kind %d: %s %d" % (kind, field, top), 5, nodes(top))
-    for kind in (VAR, FUNCTION, INTRINSIC):
-        run("kind %d: the last of 512 names" % kind, 0, only(tree(kind, ref=511), many(512)))
-        run("kind %d: a name past the last of 512" % kind, 5, only(tree(kind, ref=512), many(512)))
-    run("a Cast to the last of 512 types", 0, only(tree(CAST, X, ref=511), types=["t"] * 512))
-    run("a Cast past the last of 512 types", 5, only(tree(CAST, X, ref=512), types=["t"] * 512))
-    run("a Constant of width 0", 5, only(tree(CONSTANT, width=0)))
-    run("a Constant of width 1", 0, only(tree(CONSTANT, width=1, value=2 ** 64 - 1)))
-    run("kind 19", 0, only(tree(19)))
-    run("kind 20", 5, only(tree(20)))
-    run("kind 255", 5, only(tree(255)))
-    run("kind 20 in the last node", 5, only(X + tree(20)))
-    run("kind 20 under a Cast", 5, only(tree(CAST, tree(20))))
+            limit, number = limits.get(kind, 0), 30 if kind in limits else 31
+            one("kind %d: %s %d" % (kind, field, limit), 0, kind, **{field: limit})
+            # one more, all bits, and the high bit alone
+            for value in sorted({limit + 1, top, (top + 1) // 2}):
+                if limit < value <= top:
+                    one("kind %d: %s %d" % (kind, field, value), number, kind, **{field: value})
+    small("a Constant of width 0", 30, tree(CONSTANT, width=0))
+    small("a Constant of width 1", 0, tree(CONSTANT, width=1, value=2 ** 64 - 1))
+    for width in (256, 257, 2 ** 31 + 8):
+        small("a Constant of width %d" % width, 30, tree(CONSTANT, width=width))
+    small("kind 19", 0, tree(19))
+    for kind in (20, 21, 31, 32, 39, 64, 128, 255):
+        small("kind %d" % kind, 5, tree(kind))
+
+
+def references():
+    """A reference is below its own table's count, whatever the other's is."""
+    for kind in (VAR, FUNCTION, INTRINSIC, CAST, FIELD):
+        for ref, count, number in ((3, 4, 0), (4, 4, 30), (256, 3, 30), (511, 512, 0), (512, 512, 30)):
+            table = dict(types=["t"] * count) if kind in (CAST, FIELD) else dict(names=many(count))
+            one("kind %d: ref %d of %d" % (kind, ref, count), number, kind, **table, ref=ref)
+
+
+# what a kind bars, and the fields that it does not use
+BARRED = ((CONSTANT, "width", 0, "flag ref"), (CONSTANT, "width", 9, "flag ref"), (VAR, "ref", 3, "flag width value"),
+          (FUNCTION, "ref", 3, "flag width"), (DECIDED, "flag", 2, "ref width value"), (CAST, "ref", 3, "flag width value"),
+          (BINARY, "flag", 18, "ref width value"), (INTRINSIC, "ref", 3, "flag width value"), (FIELD, "ref", 3, "flag width"))
+
+
+def one_node():
+    """On one node 5 goes before 30, and 30 before 31."""
+    def case(number, kind, **k):
+        one("kind %d with %s" % (kind, ", ".join("%s %d" % field for field in k.items())), number, kind, **k)
+    for kind, field, barred, unused in BARRED:
+        for other in unused.split():
+            case(30, kind, **{field: barred, other: 1})
+        ones = dict.fromkeys(unused.split(), 1)
+        case(30, kind, **{field: barred}, **ones)
+        if barred:
+            case(31, kind, **{field: barred - 1}, **ones)
+        # unknown kinds that a slip takes for this one
+        case(5, kind + 32, **{field: barred})
+        case(5, kind + 128, **{field: barred}, **ones)
+    for field in ("flag", "ref", "width", "value"):
+        case(5, 20, **{field: 1})
+        case(5, 255, **{field: 1})
+    case(5, 20, flag=255, ref=65535, width=2 ** 32 - 1, value=2 ** 64 - 1)
+
+
+def two_nodes():
+    """Of two faulty nodes the lower one decides, whichever number it has."""
+    for low, first in FAULTY.items():
+        small("%d at the second node" % low, low, X + first, 1)
+        small("%d under a Cast" % low, low, tree(CAST, first), 1)
+        for high, second in FAULTY.items():
+            small("%d, then %d" % (low, high), low, first + second)
+            small("%d, then %d, under a good node" % (low, high), low, tree(TERNARY, X, first, second), 2)
+            small("%d, then %d after good ones" % (low, high), low, X + first + ONE * 20 + second, 1)
+    for high, second in FAULTY.items():
+        small("30 over %d" % high, 30, tree(CAST, second, ref=3))
+        small("31 over %d" % high, 31, tree(DEREF, second, flag=1))
+        small("5 over %d" % high, 5, tree(20, second))
+
+
+def far_nodes():
+    """A node's number has more than one byte."""
+    most = (65535 - len(only(b""))) // 20
+    for number, bad in FAULTY.items():
+        for node in (255, 256, 2048, most - 1):
+            small("%d at node %d" % (number, node), number, X * node + bad, node)
+        small("%d at node 300, and others after it" % number, number, X * 300 + bad + b"".join(FAULTY.values()), 300)
+
+
+def beside_trees():
+    """Every node is looked at before any tree is."""
+    wrong = {"a missing child": tree(CAST), "span 0": tree(VAR, span=0), "a span past the end": tree(INTRINSIC, span=2 ** 32 - 1),
+             "a field at the top": tree(FIELD, X), "a Var under a StructInit": tree(STRUCT, X), "65 nodes deep": chain(65)}
+    for number, bad in FAULTY.items():
+        for name, nodes in wrong.items():
+            small("%d before %s" % (number, name), number, bad + nodes)
+            small("%d after %s" % (number, name), number, nodes + bad, len(nodes) // 20)
+        small("%d under 64 nodes" % number, number, chain(65, bad), 64)
+    for span in (0, 2, 2 ** 32 - 1):
+        small("5 with span %d" % span, 5, tree(20, span=span))
+        small("30 with span %d" % span, 30, tree(CONSTANT, width=0, span=span))
+        small("31 with span %d" % span, 31, tree(PLAIN, ref=1, span=span))
+
+
+def beside_a_part():
+    """Of a body that ends within a node, the whole nodes are looked at first, and only they."""
+    for number, bad in FAULTY.items():
+        for size in (1, 19):
+            small("%d before a part of %d bytes" % (number, size), number, bad + X[:size])
+            small("%d at the second node, before a part of %d bytes" % (number, size), number, X + bad + b"\xff" * size, 1)
+            small("a part of %d bytes of a node that would be %d" % (size, number), 6, X + bad[:size])
+            small("nothing but a part of %d bytes of a node that would be %d" % (size, number), 6, bad[:size])
 
 
 def child_counts():
@@ -556,9 +680,8 @@ def child_counts():
             run("kind %d: %d children" % (kind, most + 1), 6, nodes(most + 1))
 
 
-def chain(depth):
-    """So many nodes, one under the other."""
-    t = X
+def chain(depth, t=X):
+    """So many nodes, one under the other; the last is given."""
     for _ in range(depth - 1):
         t = tree(CAST, t)
     return t
@@ -607,8 +730,6 @@ def node_bodies():
     run("19 bytes after the nodes", 6, only(X + b"\0" * 19))
     run("one byte after the nodes", 6, only(X + b"\0"))
     run("a body of 19 bytes", 6, only(b"\0" * 19))
-    run("a byte after a bad whole node", 5, only(tree(20) + b"\0"))
-    run("a bad node that is not whole", 6, only(X + tree(20)[:19]))
     run("no node", 0, routine(nodes=b"", statements=b"", blocks=b""))
     run("no node, and a root", 7, routine(nodes=b"", statements=statement(0), blocks=block(1)))
 
@@ -765,27 +886,31 @@ def calls():
 
 
 def first_of_two():
-    """Lowest number first: each pair of neighbours, and the ends."""
+    """The order of the tests: each pair of neighbours, and the ends."""
     bad = {
-        2: dict(names=["b", "a", "c"]), 3: dict(types=["t" * 65, "", ""]), 4: dict(top=head(name=3)), 5: dict(nodes=tree(20)),
-        6: dict(nodes=tree(CAST)), 7: dict(statements=statement(COUNT), blocks=block(1)),
+        2: dict(names=["b", "a", "c"]), 3: dict(types=["t" * 65, "", ""]), 4: dict(top=head(name=3)), 6: dict(nodes=tree(CAST)),
+        7: dict(statements=statement(COUNT), blocks=block(1)),
     }
+    bad.update({number: dict(nodes=nodes) for number, nodes in FAULTY.items()})
     whole = {k: v for d in bad.values() for k, v in d.items()}
     run("all of 2 to 9", 2, routine(**whole), world(regions=b"\0"), call(depth=256))
     run("all of 1 to 9", 1, routine(**whole) + b"\0", world(regions=b"\0"), call(depth=256))
-    for low in range(2, 7):
-        both = dict(bad[low + 1])
-        both.update(bad[low])
-        if low == 5:
-            both["nodes"] = tree(CAST) + tree(20)
-        run("%d and %d" % (low, low + 1), low, routine(**both))
+    for low, high in ((2, 3), (3, 4), (4, 5), (4, 30), (4, 31), (5, 6), (30, 6), (31, 6), (5, 7), (30, 7), (31, 7), (6, 7)):
+        both = {**bad[high], **bad[low]}
+        # the fault that is found first stands behind the other
+        node = 1 if high == 6 else 0
+        if node:
+            both["nodes"] = bad[high]["nodes"] + bad[low]["nodes"]
+        run("%d and %d" % (low, high), low, routine(**both), node=node)
     run("7 and 8", 7, routine(**bad[7]), world(regions=b"\0"))
     run("8 and 9", 8, w=world(regions=b"\0"), c=call(depth=256))
     run("1 and 9", 1, routine() + b"\0", c=call(depth=256))
     run("4 and 9", 4, routine(**bad[4]), c=call(depth=256))
-    run("a bad node before a bad tree", 5, only(tree(20) + tree(CAST)))
-    run("a bad tree before a bad node", 5, only(tree(CAST) + tree(20)))
-    for low in range(2, 8):
+    for low in FAULTY:
+        run("%d, 8 and 9" % low, low, routine(**bad[low]), world(regions=b"\0"), call(depth=256))
+        run("2 and %d" % low, 2, routine(**bad[low], **bad[2]))
+        run("1 and %d" % low, 1, routine(**bad[low]) + b"\0")
+    for low in bad:
         constant("constant: %d and a node past the last" % low, low, 2 ** 32 - 1, routine(**bad[low]))
 
 
@@ -800,6 +925,11 @@ def constants():
     constant("constant: a routine of no node", 9, 0, routine(nodes=b"", statements=b"", blocks=b""))
     constant("constant: no file", 1, 0, b"")
     constant("constant: a routine without blocks", 0, 0, routine(statements=b"", blocks=b""))
+    for number, bad in FAULTY.items():
+        for asked in (0, 1, 2, 3):
+            constant("constant: node %d, and %d at node 2" % (asked, number), number, asked, only(X + ONE + bad), 2)
+        constant("constant: %d before a wrong tree" % number, number, 0, only(X + bad + tree(CAST)), 1)
+        constant("constant: a part of a node that would be %d" % number, 6, 0, only(X + bad[:19]))
 
 
 # ---- writing them
@@ -835,22 +965,28 @@ def coded(f):
 
 
 def all_cases():
-    """Each case: its name, its number, the node of a `constant_value` or None, and its files."""
-    for part in (tables, limits_of_files, names, types, heads, fields, child_counts, chains, spans, field_places, node_bodies, roots, dealt,
-                 terminators, switches, worlds, calls, first_of_two, constants):
+    """Each case: its name, its number and node, the node of a `constant_value` or None, and its files."""
+    for part in (tables, limits_of_files, names, types, heads, fields, references, one_node, two_nodes, far_nodes, beside_trees, beside_a_part,
+                 child_counts, chains, spans, field_places, node_bodies, roots, dealt, terminators, switches, worlds, calls, first_of_two,
+                 constants):
         part()
     return CASES
 
 
+def case_bytes(name, numbers, asked, files):
+    how = b"\0" if asked is None else b"\1" + struct.pack("<I", asked)
+    return text(name) + struct.pack("<BI", *numbers) + how + b"".join(coded(f) for f in files)
+
+
 def main():
     pages = [b""]
-    for name, number, node, files in all_cases():
-        found = refusal(*files) if node is None else constant_refusal(files[0], node)
-        if found != number:
-            sys.exit("%s: said %d, read %d" % (name, number, found))
+    for name, numbers, asked, files in all_cases():
+        found = refusal(*files) if asked is None else constant_refusal(files[0], asked)
+        if found != numbers:
+            sys.exit("%s: said %d at node %d, read %d at node %d" % ((name,) + numbers + found))
         if "--list" in sys.argv:
-            print(number, name)
-        case = text(name) + bytes([number]) + (b"\0" if node is None else b"\1" + struct.pack("<I", node)) + b"".join(coded(f) for f in files)
+            print(*numbers, name)
+        case = case_bytes(name, numbers, asked, files)
         if len(pages[-1] + case) > PAGE:
             pages[-1] = pages[-1].ljust(PAGE, b"\0")
             pages.append(b"")

@@ -4,7 +4,8 @@
     tools/forms.py make TEXT FOLDER     write the three files into FOLDER
     tools/forms.py show FOLDER          print the text of the three files in FOLDER
 
-Only accepted files are made, and only accepted files are shown: the text that is shown gives the same bytes again.
+Only accepted files are made, and only accepted files are shown: the text that is shown gives the same bytes again. For others `show` says the
+number by which a run refuses them, and the faulty node's where the number tells one.
 """
 import re
 import struct
@@ -31,6 +32,10 @@ CONSTANT, VAR, REGISTER, STRING, FUNCTION, TRUE, FALSE, FOLDED, CAST, DEREF = ra
 ADDRESS, TERNARY, BINARY, ASSIGN, CALL, INTRINSIC, RETURN, STRUCT, FIELD, PLAIN = range(10, 20)
 NAMED = (VAR, FUNCTION, INTRINSIC)
 TYPED = (CAST, FIELD)
+# the fields that a kind uses, and the most that its flag may be; of the others all are 0
+USED = {CONSTANT: ("width", "value"), VAR: ("ref",), REGISTER: ("flag", "ref", "width", "value"), FUNCTION: ("ref", "value"), FOLDED: ("flag",),
+        CAST: ("ref",), BINARY: ("flag",), INTRINSIC: ("ref",), FIELD: ("ref", "value")}
+FLAGS = {FOLDED: 1, BINARY: 17}
 # how many children a kind has, the least and the most; none where it is not listed
 KIDS = {CAST: (1, 1), DEREF: (1, 1), ADDRESS: (1, 1), TERNARY: (3, 3), BINARY: (2, 2), ASSIGN: (2, 2), CALL: (1, 1 + MOST_ARGUMENTS),
         INTRINSIC: (0, MOST_BYTES), RETURN: (0, 1), STRUCT: (0, MOST_BYTES), FIELD: (1, 1)}
@@ -73,7 +78,11 @@ class Wrong(Exception):
 
 
 class Refused(Exception):
-    """Files that are not accepted."""
+    """Files that are not accepted, with the number and the node that a run tells of them, or files that would be too long."""
+
+    def __init__(self, message, number=0, node=0):
+        super().__init__(message)
+        self.number, self.node = number, node
 
 
 # ---- what text and files stand for
@@ -210,13 +219,16 @@ def call_file(c):
 # ---- them from files
 
 class Reader:
-    """A file's bytes, read from the first on. Reading past the end refuses the file."""
+    """Bytes of a file, read from the first on. The file is refused by `refusal` where they are wrong, or end before what is read."""
 
-    def __init__(self, name, data):
-        self.name, self.data, self.at = name, data, 0
+    def __init__(self, name, data, number):
+        self.name, self.data, self.refusal, self.at = name, data, number, 0
 
     def refuse(self, why):
-        raise Refused("%s is no accepted file: %s" % (self.name, why))
+        raise Refused("%s is no accepted file: refused %d: %s" % (self.name, self.refusal, why), self.refusal)
+
+    def refuse_node(self, number, node, why):
+        raise Refused("%s is no accepted file: refused %d at node %d: %s" % (self.name, number, node, why), number, node)
 
     def take(self, size):
         if self.at + size > len(self.data):
@@ -233,16 +245,36 @@ class Reader:
     def more(self):
         return self.at < len(self.data)
 
-    def bodies(self, count):
-        if self.number(2) != count:
-            self.refuse("its table does not tell %d bodies" % count)
-        sizes = [self.number(4) >> 16 for _ in range(count)]
-        return [Reader(self.name, self.take(size)) for size in sizes]
+    def bodies(self, *numbers):
+        """The bodies of a whole file, each with its number."""
+        if len(self.data) > MOST_BYTES:
+            self.refuse("it has %d bytes" % len(self.data))
+        if self.number(2) != len(numbers):
+            self.refuse("its table does not tell %d bodies" % len(numbers))
+        table = [(self.number(2), self.number(2)) for _ in numbers]
+        found = []
+        for (offset, size), number in zip(table, numbers):
+            if offset != self.at:
+                self.refuse("its table has a gap or an overlap")
+            found.append(Reader(self.name, self.take(size), number))
+        if self.more():
+            self.refuse("it is too long")
+        return found
 
-    def texts(self):
+    def texts(self, least, low):
         found = []
         while self.more():
             found.append(self.take(self.number(1)).decode("latin-1"))
+            if not is_fitting(found[-1], least, low):
+                self.refuse("it has a text %r" % found[-1])
+        if len(found) > MOST_WORDS:
+            self.refuse("it has %d texts" % len(found))
+        return found
+
+    def names(self):
+        found = self.texts(1, "!")
+        if any(first >= second for first, second in zip(found, found[1:])):
+            self.refuse("its names do not ascend")
         return found
 
     def one_of(self, words, what):
@@ -253,13 +285,17 @@ class Reader:
 
     def address(self):
         flag, address = self.number(1), self.number(8)
+        if flag > 1 or address and not flag:
+            self.refuse("there is no address with flag %d" % flag)
         return address if flag else None
 
 
 class RoutineReader:
+    """A routine's bodies, read in the order in which a run looks at them."""
+
     def __init__(self, data):
-        names, types, self.head, self.nodes, self.statements, self.blocks = Reader(FILES[0], data).bodies(6)
-        self.names, self.types = names.texts(), types.texts()
+        names, types, self.head, self.nodes, self.statements, self.blocks = Reader(FILES[0], data, 1).bodies(2, 3, 4, 6, 7, 7)
+        self.names, self.types = names.names(), types.texts(0, " ")
         # a type by its text, or by its number where that text stands before it
         first = numbers(self.types)
         self.kinds = [text if first[text] == number else number for number, text in enumerate(self.types)]
@@ -268,10 +304,12 @@ class RoutineReader:
     def read(self):
         r = Routine()
         self.read_head(r)
+        for at in range(self.count):
+            self.check_node(at)
         while self.nodes.more():
             r.trees.append(self.tree(self.count, None, 1))
         while self.statements.more():
-            r.statements.append((self.statements.address(), self.statements.number(4)))
+            r.statements.append((self.statements.address(), self.root(self.statements)))
         while self.blocks.more():
             r.blocks.append((self.blocks.number(2), self.end()))
         if sum(count for count, _ in r.blocks) != len(r.statements):
@@ -289,9 +327,26 @@ class RoutineReader:
         while b.more():
             name = b.one_of(self.names, "name")
             found.append((b.one_of(self.kinds, "type"), name))
-        if params > len(found):
-            b.refuse("its head has too few parameters")
+        if params > min(len(found), MOST_ARGUMENTS):
+            b.refuse("its head has %d variables, and %d parameters" % (len(found), params))
         r.params, r.locals = found[:params], found[params:]
+
+    def check_node(self, at):
+        """A node by itself: its kind, what the kind bars, what it does not use."""
+        kind, flag, ref, width, _, value = struct.unpack_from("<BBHIIQ", self.nodes.data, 20 * at)
+        if kind > PLAIN:
+            self.nodes.refuse_node(5, at, "there is no kind %d" % kind)
+        if kind == CONSTANT and not 1 <= width <= 8:
+            self.nodes.refuse_node(30, at, "there is no Constant of width %d" % width)
+        if flag > FLAGS.get(kind, LAST8):
+            self.nodes.refuse_node(30, at, "kind %d has no flag %d" % (kind, flag))
+        if kind in NAMED and ref >= len(self.names):
+            self.nodes.refuse_node(30, at, "there is no name %d" % ref)
+        if kind in TYPED and ref >= len(self.types):
+            self.nodes.refuse_node(30, at, "there is no type %d" % ref)
+        for field, found in (("flag", flag), ("ref", ref), ("width", width), ("value", value)):
+            if found and field not in USED.get(kind, ()):
+                self.nodes.refuse_node(31, at, "kind %d has no %s, and %d stands there" % (kind, field, found))
 
     def tree(self, end, parent, chain):
         """The tree that begins at the next node, which must end by `end`."""
@@ -300,7 +355,7 @@ class RoutineReader:
         kind, flag = b.number(1), b.number(1)
         ref = self.reference(kind)
         width, span, value = b.number(4), b.number(4), b.number(8)
-        if kind > PLAIN or at + span > end or chain > MOST_CHAIN or (kind == FIELD) != (parent == STRUCT) or kind == BINARY and flag > 17:
+        if span < 1 or at + span > end or chain > MOST_CHAIN or (kind == FIELD) != (parent == STRUCT):
             b.refuse("node %d is not as it must be" % at)
         kids = []
         while b.at // 20 < at + span:
@@ -317,24 +372,40 @@ class RoutineReader:
             return self.nodes.one_of(self.kinds, "type")
         return self.nodes.number(2)
 
+    def root(self, b):
+        root = b.number(4)
+        if root >= self.count or self.nodes.data[20 * root] == FIELD:
+            b.refuse("node %d is no root" % root)
+        return root
+
     def end(self):
         b = self.blocks
-        kind, address, root, taken, following = b.number(1), b.address(), b.number(4), b.number(4), b.number(4)
+        kind, address = b.number(1), b.address()
+        root = self.root(b) if kind in (BRANCH, SWITCH) else b.number(4)
+        taken, following = b.number(4), b.number(4)
         if kind > SWITCH:
             b.refuse("a block ends in no known way")
+        if kind in (LEAVE, GOTO) and (address is not None or root) or kind == LEAVE and taken or kind != BRANCH and following:
+            b.refuse("a field that a block's end does not use is not 0")
         if kind != SWITCH:
             return End(kind, address, root, taken, following)
         return End(kind, address, root, cases=[(b.case_value(), b.number(4)) for _ in range(taken)])
 
 
 def read_world(data):
-    names, symbols, regions = Reader(FILES[1], data).bodies(3)
-    w, words = World(), names.texts()
+    names, symbols, regions = Reader(FILES[1], data, 8).bodies(8, 8, 8)
+    w, words = World(), names.names()
     while symbols.more():
         name, size, address = symbols.one_of(words, "name"), symbols.number(1), symbols.number(8)
+        if w.symbols and name <= w.symbols[-1][0]:
+            symbols.refuse("its symbols do not ascend")
         w.symbols.append((name, address, size))
+    free = 0
     while regions.more():
         address, size = regions.number(8), regions.number(4)
+        if size < 1 or address < free or address + size > LAST64 + 1:
+            regions.refuse("the region at 0x%x is not as it must be" % address)
+        free = address + size
         w.regions.append((address, regions.take(size)))
     used = {name for name, _, _ in w.symbols}
     w.names = [name for name in words if name not in used]
@@ -342,10 +413,12 @@ def read_world(data):
 
 
 def read_call(data):
-    b, = Reader(FILES[2], data).bodies(1)
+    b, = Reader(FILES[2], data, 9).bodies(9)
     c = Call(b.number(4), b.number(4))
     while b.more():
         c.arguments.append(b.number(8))
+    if c.steps > MOST_STEPS or c.depth > MOST_DEPTH or len(c.arguments) > MOST_ARGUMENTS:
+        b.refuse("it is over its limits")
     return c
 
 
@@ -353,6 +426,11 @@ def read_call(data):
 
 def is_type_word(word):
     return word in TYPE_WORDS or word.endswith("_t")
+
+
+def is_fitting(text, least, low):
+    """Whether a file can hold a text whose letters are from `low` on, as a name or a type."""
+    return least <= len(text) <= MOST_LETTERS and all(low <= letter <= "~" for letter in text)
 
 
 def is_plain_name(word):
@@ -632,7 +710,7 @@ class Scanner:
 
     def letters(self, text, least, low, at):
         """A name or type, if it is one that a file can hold."""
-        if not least <= len(text) <= MOST_LETTERS or any(not low <= letter <= "~" for letter in text):
+        if not is_fitting(text, least, low):
             what = "a name of 1 to 64 letters without blanks" if least else "a type of at most 64 letters"
             self.wrong("expected %s, found %r" % (what, text), at)
         return text
@@ -1108,15 +1186,9 @@ def make(source):
 
 def show(files):
     """The text of three files."""
-    lines = RoutineText(RoutineReader(files[0]).read()).text() + [""] + world_text(read_world(files[1])) + [""] + call_text(read_call(files[2]))
-    text = "\n".join(lines) + "\n"
-    try:
-        again = make(text)
-    except Wrong as wrong:
-        raise Refused("no accepted files: " + str(wrong).partition(": ")[2]) from None
-    for name, old, new in zip(FILES, files, again):
-        if old != new:
-            raise Refused("%s is no accepted file" % name)
+    routine, world, call = RoutineReader(files[0]).read(), read_world(files[1]), read_call(files[2])
+    text = "\n".join(RoutineText(routine).text() + [""] + world_text(world) + [""] + call_text(call)) + "\n"
+    assert make(text) == tuple(files), "the text does not make the files again"
     return text
 
 

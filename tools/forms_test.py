@@ -1,5 +1,5 @@
 #!/usr/bin/env python3
-"""Tests of forms.py: tools/forms_test.py. Files are judged by files_reference.py, which reads document 01 on its own."""
+"""Tests of forms.py: tools/forms_test.py. Files are judged by files_reference.py, which reads the papers on its own."""
 import random
 import re
 import struct
@@ -7,6 +7,7 @@ import subprocess
 import sys
 import tempfile
 import unittest
+from collections import Counter
 from pathlib import Path
 
 sys.dont_write_bytecode = True
@@ -34,10 +35,13 @@ class Case(unittest.TestCase):
     maxDiff = None
 
     def check_files(self, files):
-        """Accepted files are shown and made again byte for byte; refused ones are not shown."""
+        """Accepted files are shown and made again byte for byte; of refused ones number and node are told."""
         files = tuple(files)
-        if reference.refusal(*files):
-            self.assertRaises(forms.Refused, forms.show, files)
+        refusal = reference.refusal(*files)
+        if refusal != reference.ACCEPTED:
+            with self.assertRaises(forms.Refused) as caught:
+                forms.show(files)
+            self.assertEqual((caught.exception.number, caught.exception.node), refusal)
             return False
         text = forms.show(files)
         self.assertEqual(forms.make(text), files)
@@ -46,7 +50,7 @@ class Case(unittest.TestCase):
     def check_text(self, text):
         """A text makes accepted files, and shows as a normal form."""
         files = forms.make(text)
-        self.assertEqual(reference.refusal(*files), 0)
+        self.assertEqual(reference.refusal(*files), reference.ACCEPTED)
         normal = forms.show(files)
         self.assertEqual(forms.make(normal), files)
         return normal
@@ -141,7 +145,7 @@ class Kinds(Case):
                 end = "" if text.startswith("return") else "    end;\n"
                 whole = one_block("    %s;  // statement 0, node 0\n%s" % (text, end))
                 files = forms.make(whole)
-                self.assertEqual(reference.refusal(*files), 0)
+                self.assertEqual(reference.refusal(*files), reference.ACCEPTED)
                 wanted = sorted(used(nodes))
                 self.assertEqual(reference.names_of(body(files[0], 0)), [name.encode() for name in wanted])
                 if "g" in wanted:
@@ -582,6 +586,64 @@ class Maker:
         return [bytes(f) for f in files]
 
 
+# bytes put into TRIM's nodes (node, place, byte; the places are kind 0, flag 1, ref 2, width 4, span 8, value 12), and what is told
+FAULTS = [
+    ([(0, 0, 20)], 5, 0, "there is no kind 20"),
+    ([(8, 0, 255)], 5, 8, "there is no kind 255"),
+    ([(4, 4, 9)], 30, 4, "there is no Constant of width 9"),
+    ([(8, 4, 0)], 30, 8, "there is no Constant of width 0"),
+    ([(2, 1, 18)], 30, 2, "kind 12 has no flag 18"),
+    ([(3, 2, 3)], 30, 3, "there is no name 3"),
+    ([(1, 0, 8), (1, 2, 3)], 30, 1, "there is no type 3"),
+    ([(1, 1, 1)], 31, 1, "kind 1 has no flag, and 1 stands there"),
+    ([(0, 3, 1)], 31, 0, "kind 13 has no ref, and 256 stands there"),
+    ([(6, 5, 1)], 31, 6, "kind 12 has no width, and 256 stands there"),
+    ([(5, 12, 7)], 31, 5, "kind 16 has no value, and 7 stands there"),
+    ([(3, 0, 20), (3, 2, 3), (3, 1, 1)], 5, 3, "there is no kind 20"),
+    ([(3, 2, 3), (3, 1, 1)], 30, 3, "there is no name 3"),
+    ([(4, 4, 9), (7, 0, 20)], 30, 4, "there is no Constant of width 9"),
+    ([(1, 1, 1), (4, 4, 9)], 31, 1, "kind 1 has no flag, and 1 stands there"),
+    ([(1, 1, 1), (4, 0, 20)], 31, 1, "kind 1 has no flag, and 1 stands there"),
+    ([(2, 0, 20), (4, 4, 9)], 5, 2, "there is no kind 20"),
+    ([(0, 8, 9), (8, 4, 9)], 30, 8, "there is no Constant of width 9"),
+    ([(3, 4, 1), (8, 8, 0)], 31, 3, "kind 1 has no width, and 1 stands there"),
+]
+
+
+def faulty_trim(faults, cut=0):
+    """TRIM with these bytes, and so many bytes less at the end of its nodes."""
+    files = forms.make(TRIM)
+    parts = reference.bodies(files[0], 6)
+    nodes = bytearray(parts[3])
+    for node, at, byte in faults:
+        nodes[20 * node + at] = byte
+    parts[3] = bytes(nodes[:len(nodes) - cut])
+    return (file_of(parts),) + files[1:]
+
+
+class Nodes(Case):
+    def check_told(self, files, told):
+        self.assertFalse(self.check_files(files))
+        with self.assertRaises(forms.Refused) as caught:
+            forms.show(files)
+        self.assertEqual(str(caught.exception), "routine.bin is no accepted file: " + told)
+
+    def test_number_and_node_are_told(self):
+        for faults, number, node, why in FAULTS:
+            with self.subTest(faults):
+                told = "refused %d at node %d: %s" % (number, node, why)
+                self.check_told(faulty_trim(faults), told)
+                if node < 8:
+                    self.check_told(faulty_trim(faults, 1), told)
+                    self.check_told(faulty_trim(faults, 19), told)
+
+    def test_a_node_cut_off_is_none(self):
+        for faults in ([], [(8, 0, 20)], [(8, 4, 9)], [(8, 1, 1)]):
+            for cut in (1, 19):
+                self.assertEqual(reference.refusal(*faulty_trim(faults, cut)), (6, 0))
+                self.assertFalse(self.check_files(faulty_trim(faults, cut)))
+
+
 class Files(Case):
     def test_the_references_cases(self):
         shown = [self.check_files(files) for _, _, node, files in reference.all_cases() if node is None]
@@ -592,8 +654,26 @@ class Files(Case):
         for seed in range(ROUTINES):
             with self.subTest(seed=seed):
                 files = Maker(seed).files()
-                self.assertEqual(reference.refusal(*files), 0)
+                self.assertEqual(reference.refusal(*files), reference.ACCEPTED)
                 self.assertTrue(self.check_files(files))
+
+    def test_damaged_nodes(self):
+        """Two bytes of nodes changed: every number of them is met."""
+        found = Counter()
+        for seed in range(ROUTINES * DAMAGES):
+            maker = Maker(seed // DAMAGES)
+            files = maker.files()
+            maker.random.seed(seed)
+            parts = reference.bodies(files[0], 6)
+            nodes = bytearray(parts[3])
+            for _ in range(2 if nodes else 0):
+                nodes[maker.random.randrange(len(nodes))] = maker.random.choice([0, 1, 2, 9, 18, 20, maker.random.getrandbits(8)])
+            parts[3] = bytes(nodes)
+            with self.subTest(seed=seed):
+                files = (file_of(parts),) + files[1:]
+                self.check_files(files)
+                found[reference.refusal(*files)[0]] += 1
+        self.assertGreater(min(found[number] for number in (0, 5, 6, 30, 31)), 10)
 
     def test_damaged_files(self):
         shown = []
@@ -645,7 +725,10 @@ class Command(Case):
             self.assertIn("routine.bin", self.run_tool("show", folder)[2])
             for name in forms.FILES:
                 (Path(folder) / name).write_bytes(b"")
-            self.assertEqual(self.run_tool("show", folder), (1, "", "routine.bin is no accepted file: it is too short\n"))
+            self.assertEqual(self.run_tool("show", folder), (1, "", "routine.bin is no accepted file: refused 1: it is too short\n"))
+            (Path(folder) / "routine.bin").write_bytes(faulty_trim([(4, 4, 9)])[0])
+            told = "routine.bin is no accepted file: refused 30 at node 4: there is no Constant of width 9\n"
+            self.assertEqual(self.run_tool("show", folder), (1, "", told))
             for words in ((), ("make",), ("make", text), ("show",), ("show", folder, folder), ("list", folder)):
                 code, out, told = self.run_tool(*words)
                 self.assertEqual((code, out), (1, ""))

@@ -1,7 +1,7 @@
 /* A plain check of the same files, without proofs: how fast good C is at the same work.
  *
- * It gives the lowest number by which the files are refused. It reads no byte outside them,
- * whatever they hold, and presumes a little-endian machine. */
+ * It gives the number by which the files are refused, and the node where one is. It reads no byte
+ * outside them, whatever they hold, and presumes a little-endian machine. */
 #include <stdbool.h>
 #include <stdint.h>
 #include <string.h>
@@ -202,15 +202,29 @@ static inline bool node_ok(const struct rule *rules, const struct node *node)
            && (node->value & rule->value) == 0;
 }
 
-static bool nodes_ok(const struct node *nodes, uint32_t count, size_t names, size_t types)
+/* The lowest faulty node, or the count of nodes. */
+static uint32_t first_faulty(const struct node *nodes, uint32_t count, size_t names, size_t types)
 {
     struct rule rules[KINDS];
     uint32_t k;
     make_rules(rules, names, types);
     for (k = 0; k < count; k++)
         if (!node_ok(rules, &nodes[k]))
-            return false;
-    return true;
+            break;
+    return k;
+}
+
+/* The number by which a faulty node is refused: 31 where kind and what the kind bounds are good. */
+static uint32_t fault_of(const struct node *node, size_t names, size_t types)
+{
+    switch (node->kind) {
+    case CONSTANT: return node->width - 1 < 8 ? 31 : 30;
+    case VAR: case FUNCTION_NAME: case INTRINSIC: return node->ref < names ? 31 : 30;
+    case CAST: case FIELD: return node->ref < types ? 31 : 30;
+    case CONSTANT_CONDITION: return node->flag < 2 ? 31 : 30;
+    case BINARY: return node->flag < 18 ? 31 : 30;
+    default: return node->kind < KINDS ? 31 : 5;
+    }
 }
 
 /* ---- Trees */
@@ -396,29 +410,36 @@ static bool blocks_ok(const struct forest *f, struct bytes body, size_t statemen
 
 /* ---- The three files */
 
-static uint32_t check_routine(struct bytes file)
+static inline struct refusal by(uint32_t number)
+{
+    return (struct refusal){ number, 0 };
+}
+
+static struct refusal check_routine(struct bytes file)
 {
     struct bytes bodies[6];
     struct forest forest;
     size_t names, types;
+    uint32_t faulty;
     if (!read_table(file, bodies, 6))
-        return 1;
+        return by(1);
     if (!read_names(bodies[0], &names))
-        return 2;
+        return by(2);
     if (!read_types(bodies[1], &types))
-        return 3;
+        return by(3);
     if (!head_ok(bodies[2], names, types))
-        return 4;
+        return by(4);
     forest.nodes = (const struct node *)bodies[3].first;
     forest.count = bodies[3].length / sizeof(struct node);
-    if (!nodes_ok(forest.nodes, forest.count, names, types))
-        return 5;
+    faulty = first_faulty(forest.nodes, forest.count, names, types);
+    if (faulty < forest.count)
+        return (struct refusal){ fault_of(&forest.nodes[faulty], names, types), faulty };
     if (bodies[3].length % sizeof(struct node) != 0 || !trees_ok(&forest))
-        return 6;
+        return by(6);
     if (!statements_ok(&forest, bodies[4])
         || !blocks_ok(&forest, bodies[5], bodies[4].length / sizeof(struct statement)))
-        return 7;
-    return 0;
+        return by(7);
+    return by(0);
 }
 
 static bool symbols_ok(struct bytes body, size_t names)
@@ -486,13 +507,13 @@ static bool call_ok(struct bytes file)
     return limits->steps <= MOST_STEPS && limits->depth <= MOST_DEPTH;
 }
 
-uint32_t files_check(const uint8_t *routine, size_t routine_length, const uint8_t *world,
-                     size_t world_length, const uint8_t *call, size_t call_length)
+struct refusal files_check(const uint8_t *routine, size_t routine_length, const uint8_t *world,
+                           size_t world_length, const uint8_t *call, size_t call_length)
 {
-    uint32_t number = check_routine((struct bytes){ routine, routine_length });
-    if (number != 0)
-        return number;
+    struct refusal refusal = check_routine((struct bytes){ routine, routine_length });
+    if (refusal.number != 0)
+        return refusal;
     if (!world_ok((struct bytes){ world, world_length }))
-        return 8;
-    return call_ok((struct bytes){ call, call_length }) ? 0 : 9;
+        return by(8);
+    return by(call_ok((struct bytes){ call, call_length }) ? 0 : 9);
 }

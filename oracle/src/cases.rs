@@ -2,7 +2,7 @@
 //! that are lent.
 
 use crate::damage::damaged;
-use crate::edges::edges;
+use crate::edges::{edges, faulty_nodes};
 use crate::generate::{sources, Size};
 use crate::judge::{judge, Files, Verdict, LEAST_WORKSPACE};
 use crate::random::Random;
@@ -22,9 +22,21 @@ pub struct Case {
     pub how: Option<&'static str>,
 }
 
+/// How the fixed cases with faulty nodes were changed.
+const FAULTY_NODES: &str = "faulty nodes";
+
 impl Case {
     pub fn judge(&self) -> Verdict {
         judge(&self.files, self.buffer, self.workspace)
+    }
+
+    /// The nodes of a fixed case whose `constant_value` is asked for, too: the
+    /// first and one out of reach, where nodes are faulty.
+    pub fn constants(&self) -> &'static [u32] {
+        match self.how {
+            Some(FAULTY_NODES) => &[0, u32::MAX],
+            _ => &[],
+        }
     }
 }
 
@@ -34,6 +46,8 @@ pub fn fixed() -> Vec<Case> {
     let mut cases: Vec<Case> = tiny.map(|files| ample(files, None)).collect();
     let edges = edges().into_iter().map(|files| ample(files, Some("edge")));
     cases.extend(edges);
+    let nodes = faulty_nodes().into_iter();
+    cases.extend(nodes.map(|files| ample(files, Some(FAULTY_NODES))));
     let sweep = sweep().into_iter().map(|files| ample(files, Some("sweep")));
     cases.extend(sweep);
     for case in &mut cases {

@@ -1,5 +1,5 @@
-//! A part laid beside the original: number, length and every byte of both
-//! buffers, after every answer.
+//! A part laid beside the original: both numbers of an answer and every byte
+//! of both buffers, after every answer.
 
 use crate::cases::{case, Case, AMPLE_BUFFER};
 use crate::emulate::Val;
@@ -7,18 +7,19 @@ use crate::files;
 use crate::generate::Size;
 use crate::judge::{judge_constant, Files, Verdict, LEAST_WORKSPACE};
 use crate::random::Random;
+use crate::refusal::Checked;
 use crate::two_worlds::{agrees, second_world, Change};
 
 /// What is compared: document 01's two entries.
 pub trait Part {
-    /// The number and the record's length.
+    /// The number, and the record's length or the node that a refusal names.
     fn run(&self, files: &Files, record: &mut [u8], workspace: &mut [u8]) -> (u32, u32);
 
     fn constant_value(&self, routine: &[u8], node: u32, workspace: &mut [u8]) -> ConstantAnswer;
 }
 
-/// What `constant_value` gives; all but the refusal is 0 where there is no
-/// value.
+/// What `constant_value` gives. Where there is no value all but the refusal is
+/// 0, and `number` is the node that the refusal names.
 #[derive(Debug, Clone, Copy, PartialEq, Eq)]
 pub struct ConstantAnswer {
     pub refusal: u32,
@@ -135,9 +136,11 @@ fn compare_lent(
     expect(number == verdict.number, || {
         format!("the number is {number}, and not {}", verdict.number)
     })?;
-    let expected = verdict.record.len();
-    expect(length as usize == expected, || {
-        format!("the length is {length}, and not {expected}")
+    expect(length == verdict.length, || {
+        format!(
+            "number {number} comes with {length}, and not {}",
+            verdict.length
+        )
     })?;
     let (left_workspace, left_record) = leaves(number);
     record.check("record", &verdict.record, left_record)?;
@@ -163,14 +166,17 @@ pub fn compare_constant(
 }
 
 /// The original's answer as an entry gives it.
-pub fn constant_answer(verdict: Result<Option<Val>, u32>) -> ConstantAnswer {
+pub fn constant_answer(verdict: Checked<Option<Val>>) -> ConstantAnswer {
     let value = verdict.unwrap_or(None);
+    let (refusal, node) = verdict.err().map_or((0, 0), |by| (by.number, by.node));
     ConstantAnswer {
-        refusal: verdict.err().unwrap_or(0),
+        refusal,
         known: value.is_some(),
         signed: value.is_some_and(|value| value.signed),
         bits: value.map_or(0, |value| value.bits),
-        number: value.and_then(|value| value.value).unwrap_or(0),
+        number: value
+            .and_then(|value| value.value)
+            .unwrap_or(u64::from(node)),
     }
 }
 

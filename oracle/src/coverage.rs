@@ -1,14 +1,16 @@
-//! What a set of cases reached: the table that shows that nothing of document
-//! 01 was left out.
+//! What a set of cases reached: the table that shows that nothing of the papers
+//! was left out.
 
 use std::collections::BTreeMap;
 use std::fmt;
 
 use crate::comparison::ConstantAnswer;
+use crate::files::{bodies, nodes, Routine, NODE_BYTES};
 use crate::judge::{Files, Verdict};
 use crate::kinds;
 use crate::notes::{self, Note};
 use crate::original::Ran;
+use crate::refusal::{faulty_nodes, unused_fields_are_zero};
 use crate::stops::{self, Stopped};
 use crate::values::OPERATORS;
 use crate::world::Question;
@@ -19,7 +21,14 @@ pub struct Coverage {
     rows: BTreeMap<(&'static str, String), u64>,
 }
 
-const REFUSALS: [u32; 13] = [0, 1, 2, 3, 4, 5, 6, 7, 8, 9, 20, 21, 22];
+const REFUSALS: [u32; 15] = [0, 1, 2, 3, 4, 5, 30, 31, 6, 7, 8, 9, 20, 21, 22];
+
+/// The refusals that name a node.
+const OF_NODES: [u32; 3] = [5, 30, 31];
+
+const OF_A_NODE: &str = "refusal of a node";
+const SAME_NODE: &str = "30 before 31 of the same node";
+const PART_BEHIND: &str = "before a part of a node";
 
 const QUESTIONS: [&str; 7] = [
     "address_of",
@@ -31,7 +40,7 @@ const QUESTIONS: [&str; 7] = [
     "call",
 ];
 
-const CONSTANTS: [&str; 12] = [
+const CONSTANTS: [&str; 14] = [
     "a value",
     "none",
     "1 refused",
@@ -39,6 +48,8 @@ const CONSTANTS: [&str; 12] = [
     "3 refused",
     "4 refused",
     "5 refused",
+    "30 refused",
+    "31 refused",
     "6 refused",
     "7 refused",
     "9 refused",
@@ -61,6 +72,7 @@ impl Coverage {
             rows: BTreeMap::new(),
         };
         coverage.rows("answer", REFUSALS.map(answer));
+        coverage.rows(OF_A_NODE, of_a_node());
         coverage.rows("stop", stops::KINDS);
         coverage.rows("reason", &stops::REASONS[1..]);
         coverage.rows("note", notes::NAMES);
@@ -82,9 +94,12 @@ impl Coverage {
     /// Count a case and its answer.
     pub fn count(&mut self, files: &Files, verdict: &Verdict) {
         self.add("answer", &answer(verdict.number));
+        if OF_NODES.contains(&verdict.number) {
+            self.count_faulty(&files.routine);
+        }
         if let Some(ran) = &verdict.ran {
             self.count_run(ran);
-            self.count_routine(&crate::files::Routine::read(&files.routine));
+            self.count_routine(&Routine::read(&files.routine));
         }
     }
 
@@ -126,7 +141,25 @@ impl Coverage {
         }
     }
 
-    fn count_routine(&mut self, routine: &crate::files::Routine) {
+    /// Count the refusal of a node, and what else fails that comes after it.
+    fn count_faulty(&mut self, routine: &[u8]) {
+        let faulty = faulty_nodes(routine);
+        let lowest = faulty[0];
+        self.add(OF_A_NODE, &of_node(lowest.number, lowest.node == 0));
+        for later in &faulty[1..] {
+            self.add(OF_A_NODE, &before(lowest.number, later.number));
+        }
+        let body = bodies(routine, 6).expect("the table was accepted")[3];
+        let node = nodes(body)[lowest.node as usize];
+        if lowest.number == 30 && !unused_fields_are_zero(&node) {
+            self.add(OF_A_NODE, SAME_NODE);
+        }
+        if !body.len().is_multiple_of(NODE_BYTES) {
+            self.add(OF_A_NODE, PART_BEHIND);
+        }
+    }
+
+    fn count_routine(&mut self, routine: &Routine) {
         for node in &routine.nodes {
             let kind = usize::from(node.kind);
             self.add("node in an accepted routine", kinds::NAMES[kind]);
@@ -147,6 +180,25 @@ fn answer(number: u32) -> String {
         0 => " 0 accepted".to_string(),
         _ => format!("{number:2} refused"),
     }
+}
+
+/// The rows of refusals that name a node: where it is, and what comes after.
+fn of_a_node() -> Vec<String> {
+    let mut rows = vec![SAME_NODE.to_string(), PART_BEHIND.to_string()];
+    for number in OF_NODES {
+        rows.extend([true, false].map(|first| of_node(number, first)));
+        rows.extend(OF_NODES.map(|later| before(number, later)));
+    }
+    rows
+}
+
+fn of_node(number: u32, first: bool) -> String {
+    let place = if first { "node 0" } else { "a later node" };
+    format!("{number:2} of {place}")
+}
+
+fn before(number: u32, later: u32) -> String {
+    format!("{number:2} before a node's {later}")
 }
 
 fn question_row(question: &Question) -> &'static str {

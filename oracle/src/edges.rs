@@ -250,14 +250,21 @@ fn calls() -> Vec<Files> {
     limits.map(call).to_vec()
 }
 
-/// Each body longer or shorter by a few bytes, the table agreeing.
-fn bodies() -> Vec<Files> {
+/// The three files as bodies.
+type Parts = [Vec<Vec<u8>>; 3];
+
+fn parts() -> Parts {
     let case = every::sources();
-    let parts = [
+    [
         case.routine.bodies(),
         case.world.bodies(),
         case.call.bodies(),
-    ];
+    ]
+}
+
+/// Each body longer or shorter by a few bytes, the table agreeing.
+fn bodies() -> Vec<Files> {
+    let parts = parts();
     let mut found = Vec::new();
     for which in 0..3 {
         for body in 0..parts[which].len() {
@@ -273,12 +280,57 @@ fn bodies() -> Vec<Files> {
     found
 }
 
-fn files(parts: &[Vec<Vec<u8>>; 3]) -> Files {
+fn files(parts: &Parts) -> Files {
     Files {
         routine: file(&parts[0]),
         world: file(&parts[1]),
         call: file(&parts[2]),
     }
+}
+
+/// A byte put into the node body.
+type Fault = (usize, u8);
+
+/// Faults of a Var, whose number is 1, and of a Constant, whose number is 4: in
+/// the kind, in what the kind bars, in what it does not use.
+const FAULTS: [Fault; 6] = [(20, 20), (23, 2), (21, 1), (80, 20), (84, 9), (81, 1)];
+
+/// Each choice of these faults, then each one beside a fault of another number.
+pub fn faulty_nodes() -> Vec<Files> {
+    let chosen = |choice: usize| {
+        let of = (0..FAULTS.len()).filter(move |fault| choice >> fault & 1 == 1);
+        of.map(|fault| FAULTS[fault]).collect::<Vec<Fault>>()
+    };
+    let choices = 1..1 << FAULTS.len();
+    let mut found: Vec<Files> = choices
+        .map(|choice| faulty(&chosen(choice), |_| {}))
+        .collect();
+    for other in OTHERS {
+        found.push(faulty(&[], other));
+        found.extend(FAULTS.iter().map(|fault| faulty(&[*fault], other)));
+    }
+    found
+}
+
+/// What is faulty beside nodes: a head, a part of a node, a span, a statement,
+/// a world, a call.
+const OTHERS: [fn(&mut Parts); 6] = [
+    |parts| parts[0][2][12] = 17,
+    |parts| parts[0][3].extend([20; 7]),
+    |parts| parts[0][3][8] = 0,
+    |parts| parts[0][4][0] = 2,
+    |parts| parts[1][2].truncate(1),
+    |parts| parts[2][0].truncate(7),
+];
+
+/// The case of `every` with these faults and changed.
+fn faulty(faults: &[Fault], change: impl FnOnce(&mut Parts)) -> Files {
+    let mut parts = parts();
+    for &(at, byte) in faults {
+        parts[0][3][at] = byte;
+    }
+    change(&mut parts);
+    files(&parts)
 }
 
 /// Files of about the most bytes, well but for that; short files; a byte too

@@ -1,10 +1,10 @@
-//! The answers that document 01 defines, with the original as the run.
+//! The answers that the papers define, with the original as the run.
 
 use crate::emulate::Val;
 use crate::files::{Call, Routine, World};
 use crate::original::{self, Ran};
 use crate::record;
-use crate::refusal::{constant_refusal, refusal};
+use crate::refusal::{check, check_constant, Checked, Refusal};
 
 /// "workspace under 65,536 bytes"
 pub const LEAST_WORKSPACE: usize = 65_536;
@@ -25,6 +25,8 @@ pub struct Files {
 pub struct Verdict {
     /// 0, or the refusal's number.
     pub number: u32,
+    /// The record's length, or the node that the refusal names, or 0.
+    pub length: u32,
     /// Empty after a refusal.
     pub record: Vec<u8>,
     /// The run, where the input was not refused.
@@ -32,9 +34,10 @@ pub struct Verdict {
 }
 
 impl Verdict {
-    fn refused(number: u32, ran: Option<Ran>) -> Self {
+    fn refused(refusal: Refusal, ran: Option<Ran>) -> Self {
         Self {
-            number,
+            number: refusal.number,
+            length: refusal.node,
             record: Vec::new(),
             ran,
         }
@@ -56,43 +59,39 @@ impl Verdict {
 
 /// The answer to a run with a record buffer and a workspace of these lengths.
 pub fn judge(files: &Files, buffer: usize, workspace: usize) -> Verdict {
-    let number = refusal(&files.routine, &files.world, &files.call);
-    if number != 0 {
-        return Verdict::refused(number, None);
+    if let Err(refusal) = check(&files.routine, &files.world, &files.call) {
+        return Verdict::refused(refusal, None);
     }
     if workspace < LEAST_WORKSPACE {
-        return Verdict::refused(20, None);
+        return Verdict::refused(Refusal::by(20), None);
     }
     let routine = Routine::read(&files.routine);
     let call = Call::read(&files.call);
     let ran = original::run(&routine, &World::read(&files.world), &call);
     if ran.run.memory.len() > MOST_ADDRESSES {
-        return Verdict::refused(21, Some(ran));
+        return Verdict::refused(Refusal::by(21), Some(ran));
     }
     let length = record::length(&ran);
     if length > buffer as u64 || length > u64::from(u32::MAX) {
-        return Verdict::refused(22, Some(ran));
+        return Verdict::refused(Refusal::by(22), Some(ran));
     }
     Verdict {
         number: 0,
+        length: length as u32,
         record: record::record(&routine, &call, &ran),
         ran: Some(ran),
     }
 }
 
-/// The answer to a `constant_value`: a refusal's number, or a known value or
-/// none.
-pub fn judge_constant(routine: &[u8], node: u32, workspace: usize) -> Result<Option<Val>, u32> {
-    let number = constant_refusal(routine, node);
-    if number != 0 {
-        return Err(number);
-    }
+/// The answer to a `constant_value`: a known value or none, or what refuses it.
+pub fn judge_constant(routine: &[u8], node: u32, workspace: usize) -> Checked<Option<Val>> {
+    check_constant(routine, node)?;
     if workspace < LEAST_WORKSPACE {
-        return Err(20);
+        return Err(Refusal::by(20));
     }
     let constant = original::constant_value(&Routine::read(routine), node as usize);
     if constant.written > MOST_ADDRESSES {
-        return Err(21);
+        return Err(Refusal::by(21));
     }
     Ok(constant.value)
 }

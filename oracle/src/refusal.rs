@@ -1,61 +1,96 @@
-//! The refusals that follow from the input, 1 to 9.
+//! The refusals that follow from the input: 1 to 9, 30 and 31.
 //!
-//! Written from document 01 alone ("The files", "From the input"), each check
-//! beside the sentence it stands for.
+//! Written from the papers alone: document 01, "The files" and "From the
+//! input", and document 02, A1, each check beside the sentence it stands for.
 
 use crate::fields::Fields;
 use crate::files::{bodies, nodes, Node, NODE_BYTES};
 use crate::kinds::*;
 
-/// The lowest refusal number that applies to a run's files, or 0.
-pub fn refusal(routine: &[u8], world: &[u8], call: &[u8]) -> u32 {
-    match routine_refusal(routine) {
-        0 if !world_is_well(world) => 8,
-        0 if !call_is_well(call) => 9,
-        number => number,
+/// What refuses an input or a state.
+#[derive(Debug, Clone, Copy, PartialEq, Eq)]
+pub struct Refusal {
+    pub number: u32,
+    /// "All three carry the lowest faulty node's number in place of the 0": of
+    /// 5, 30 and 31; 0 for every other.
+    pub node: u32,
+}
+
+/// What passes, or what refuses it.
+pub type Checked<T = ()> = Result<T, Refusal>;
+
+impl Refusal {
+    /// A refusal that names no node.
+    pub fn by(number: u32) -> Self {
+        Self { number, node: 0 }
     }
 }
 
-/// The lowest refusal number that applies to a `constant_value`, or 0.
-pub fn constant_refusal(routine: &[u8], node: u32) -> u32 {
-    match routine_refusal(routine) {
-        0 => {
-            let body = bodies(routine, 6).expect("the table was accepted")[3];
-            if is_root(&nodes(body), node) {
-                0
-            } else {
-                9
-            }
-        }
-        number => number,
-    }
+fn ensure(well: bool, number: u32) -> Checked {
+    well.then_some(()).ok_or(Refusal::by(number))
 }
 
-/// The lowest of 1 to 7 that applies to a routine file, or 0.
-pub fn routine_refusal(file: &[u8]) -> u32 {
-    let Some(bodies) = bodies(file, 6) else {
-        return 1;
-    };
-    let Some(names) = names(bodies[0]) else {
-        return 2;
-    };
-    let Some(types) = types(bodies[1]) else {
-        return 3;
-    };
+/// A run's files.
+pub fn check(routine: &[u8], world: &[u8], call: &[u8]) -> Checked {
+    check_routine(routine)?;
+    ensure(world_is_well(world), 8)?;
+    ensure(call_is_well(call), 9)
+}
+
+/// The routine and the node of a `constant_value`.
+pub fn check_constant(routine: &[u8], node: u32) -> Checked {
+    check_routine(routine)?;
+    let body = bodies(routine, 6).expect("the table was accepted")[3];
+    ensure(is_root(&nodes(body), node), 9)
+}
+
+/// A routine file: 1, 2, 3, 4, then 5, 30 and 31 by node, then 6 and 7.
+pub fn check_routine(file: &[u8]) -> Checked {
+    let bodies = bodies(file, 6).ok_or(Refusal::by(1))?;
+    let names = names(bodies[0]).ok_or(Refusal::by(2))?;
+    let types = types(bodies[1]).ok_or(Refusal::by(3))?;
     let tables = Tables { names, types };
-    if !head_is_well(bodies[2], &tables) {
-        return 4;
-    }
+    ensure(head_is_well(bodies[2], &tables), 4)?;
     let nodes = nodes(bodies[3]);
-    if !nodes.iter().all(|node| fields_are_well(node, &tables)) {
-        return 5;
+    if let Some(lowest) = faulty(&nodes, &tables).next() {
+        return Err(lowest);
     }
-    if bodies[3].len() % NODE_BYTES != 0 || !forest_is_well(&nodes) {
-        return 6;
-    }
-    match statements(bodies[4], &nodes) {
-        Some(count) if blocks(bodies[5], &nodes) == Some(count) => 0,
-        _ => 7,
+    let whole = bodies[3].len().is_multiple_of(NODE_BYTES);
+    ensure(whole && forest_is_well(&nodes), 6)?;
+    let statements = statements(bodies[4], &nodes).ok_or(Refusal::by(7))?;
+    ensure(blocks(bodies[5], &nodes) == Some(statements), 7)
+}
+
+/// What each faulty node of a routine would be refused by, in file order.
+pub fn faulty_nodes(file: &[u8]) -> Vec<Refusal> {
+    let found = || {
+        let bodies = bodies(file, 6)?;
+        let (names, types) = (names(bodies[0])?, types(bodies[1])?);
+        Some(faulty(&nodes(bodies[3]), &Tables { names, types }).collect())
+    };
+    found().unwrap_or_default()
+}
+
+/// "the lowest node comes first": the nodes that fail a check, in file order.
+fn faulty<'a>(nodes: &'a [Node], tables: &'a Tables) -> impl Iterator<Item = Refusal> + 'a {
+    let numbered = (0..).zip(nodes);
+    numbered.filter_map(|(node, fields)| {
+        let number = fault(fields, tables)?;
+        Some(Refusal { number, node })
+    })
+}
+
+/// "30 and 31 are tested after 5 on the same node": the first of a node's
+/// checks that fails.
+fn fault(node: &Node, tables: &Tables) -> Option<u32> {
+    if !kind_is_known(node) {
+        Some(5)
+    } else if !kind_allows_fields(node, tables) {
+        Some(30)
+    } else if !unused_fields_are_zero(node) {
+        Some(31)
+    } else {
+        None
     }
 }
 
@@ -124,31 +159,40 @@ fn head(body: &[u8], tables: &Tables) -> Option<()> {
     (well && declared >= usize::from(parameters)).then_some(())
 }
 
-/// "Kinds: ... Fields not named here are 0, and a ref to a name or type is
-/// below its table's count."
-fn fields_are_well(node: &Node, tables: &Tables) -> bool {
-    let flag = match node.kind {
-        REGISTER => true,
+/// "Let 5 mean an unknown kind": document 01 has kinds 0 to 19.
+fn kind_is_known(node: &Node) -> bool {
+    node.kind <= PLAIN
+}
+
+/// "A constant width, flag or reference that the kind bars becomes 30":
+/// "0 Constant (width 1 to 8 bytes, value)", "7 ConstantCondition (flag 0 or
+/// 1", "12 Binary (flag 0 to 17", "a ref to a name or type is below its table's
+/// count".
+fn kind_allows_fields(node: &Node, tables: &Tables) -> bool {
+    match node.kind {
+        CONSTANT => (1..=8).contains(&node.width),
         CONSTANT_CONDITION => node.flag <= 1,
         BINARY => node.flag <= 17,
-        _ => node.flag == 0,
-    };
-    let reference = match node.kind {
-        REGISTER => true,
         VAR | FUNCTION_NAME | INTRINSIC => tables.has_name(node.reference),
         CAST | FIELD => tables.has_type(node.reference),
-        _ => node.reference == 0,
-    };
-    let width = match node.kind {
-        REGISTER => true,
-        CONSTANT => (1..=8).contains(&node.width),
-        _ => node.width == 0,
-    };
-    let value = match node.kind {
-        CONSTANT | REGISTER | FUNCTION_NAME | FIELD => true,
-        _ => node.value == 0,
-    };
-    node.kind <= PLAIN && flag && reference && width && value
+        _ => true,
+    }
+}
+
+/// "an unused field that isn't 0 becomes 31", and of document 01's kinds
+/// "Fields not named here are 0".
+pub fn unused_fields_are_zero(node: &Node) -> bool {
+    let uses_flag = matches!(node.kind, REGISTER | CONSTANT_CONDITION | BINARY);
+    let uses_reference = matches!(
+        node.kind,
+        VAR | REGISTER | FUNCTION_NAME | CAST | INTRINSIC | FIELD
+    );
+    let uses_width = matches!(node.kind, CONSTANT | REGISTER);
+    let uses_value = matches!(node.kind, CONSTANT | REGISTER | FUNCTION_NAME | FIELD);
+    (uses_flag || node.flag == 0)
+        && (uses_reference || node.reference == 0)
+        && (uses_width || node.width == 0)
+        && (uses_value || node.value == 0)
 }
 
 /// "none for 0 to 7 and 19, one for 8 to 10 and 18, three for 11, two for 12

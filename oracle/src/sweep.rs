@@ -1,7 +1,7 @@
 //! Every field of the three files of `every`, with numbers on either side of
 //! the limits that document 01 sets somewhere.
 
-use crate::damage::places::{fields, number, Place};
+use crate::damage::places::{fields, number, put, Place};
 use crate::every;
 use crate::judge::Files;
 use crate::source::file;
@@ -63,10 +63,6 @@ fn with(whole: &Files, which: usize, bytes: Vec<u8>) -> Files {
         _ => files.call = bytes,
     }
     files
-}
-
-fn put(bytes: &mut [u8], (at, width): Place, new: u64) {
-    bytes[at..at + width].copy_from_slice(&new.to_le_bytes()[..width]);
 }
 
 /// How many names, types and nodes there are: what references are held to.

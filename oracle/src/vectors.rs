@@ -8,7 +8,7 @@ use crate::fields::Fields;
 use crate::judge::Files;
 
 /// The file's first bytes.
-pub const MAGIC: &[u8; 4] = b"VEC1";
+pub const MAGIC: &[u8; 4] = b"VEC2";
 
 const RUN: u8 = 0;
 const CONSTANT: u8 = 1;
@@ -29,6 +29,7 @@ pub enum Vector {
         buffer: u32,
         workspace: u32,
         number: u32,
+        length: u32,
         record: Vec<u8>,
     },
     Constant {
@@ -86,6 +87,7 @@ impl Packer {
             buffer,
             workspace,
             number,
+            length,
             record,
         } = vector
         else {
@@ -98,6 +100,7 @@ impl Packer {
         case.extend(buffer.to_le_bytes());
         case.extend(workspace.to_le_bytes());
         case.push(*number as u8);
+        case.extend(length.to_le_bytes());
         if *number == 0 {
             follow(case, &mut self.last.record, record);
         }
@@ -201,7 +204,7 @@ fn read_run(case: &mut Fields, last: &mut Last) -> Option<Vector> {
     read_following(case, &mut last.world)?;
     read_following(case, &mut last.call)?;
     let (buffer, workspace) = (case.u32()?, case.u32()?);
-    let number = u32::from(case.u8()?);
+    let (number, length) = (u32::from(case.u8()?), case.u32()?);
     if number == 0 {
         read_following(case, &mut last.record)?;
     }
@@ -215,6 +218,7 @@ fn read_run(case: &mut Fields, last: &mut Last) -> Option<Vector> {
         buffer,
         workspace,
         number,
+        length,
         record: record.to_vec(),
     })
 }

@@ -7,7 +7,8 @@ use oracle::comparison::{
     ConstantAnswer, Part,
 };
 use oracle::generate::Size;
-use oracle::judge::{judge, judge_constant, Files};
+use oracle::judge::{judge, judge_constant, Files, Verdict};
+use oracle::refusal::faulty_nodes;
 use oracle::two_worlds::Change;
 
 /// A fault of a part.
@@ -21,7 +22,15 @@ enum Fault {
     WorkspaceLeft,
     RecordLeftAfter22,
     TouchedAtRefusal,
+    TouchedAt30And31,
     WrongConstant,
+    /// 0 in place of the node.
+    NodeLeftOut,
+    NodeOfConstantLeftOut,
+    /// The last faulty node in place of the first.
+    LastNode,
+    /// All nodes tested for 5, then all for 30, then all for 31.
+    LowestNumber,
 }
 
 /// The original behind the entries, with a fault.
@@ -42,9 +51,7 @@ impl Part for Original {
             workspace.fill(0);
         }
         self.spoil(verdict.number, record, length);
-        let number = verdict.number + u32::from(self.0 == Fault::WrongNumber);
-        let length = length as u32 + u32::from(self.0 == Fault::WrongLength);
-        (number, length)
+        self.answer(&verdict, &files.routine)
     }
 
     fn constant_value(&self, routine: &[u8], node: u32, workspace: &mut [u8]) -> ConstantAnswer {
@@ -52,19 +59,37 @@ impl Part for Original {
         if matches!(answer.refusal, 0 | 21) {
             workspace.fill(0);
         }
-        if self.0 == Fault::WrongConstant {
-            answer.number ^= 1;
+        match self.0 {
+            Fault::WrongConstant => answer.number ^= 1,
+            Fault::NodeOfConstantLeftOut if !answer.known => answer.number = 0,
+            _ => {}
         }
         answer
     }
 }
 
 impl Original {
+    /// The number and what comes with it.
+    fn answer(&self, verdict: &Verdict, routine: &[u8]) -> (u32, u32) {
+        let Verdict { number, length, .. } = *verdict;
+        let refused = match self.0 {
+            Fault::WrongNumber => return (number + 1, length),
+            Fault::WrongLength => return (number, length + 1),
+            Fault::NodeLeftOut if number != 0 => return (number, 0),
+            Fault::LastNode => faulty_nodes(routine).pop(),
+            Fault::LowestNumber => faulty_nodes(routine).into_iter().min_by_key(|by| by.number),
+            _ => None,
+        };
+        let of_node = refused.filter(|_| [5, 30, 31].contains(&number));
+        of_node.map_or((number, length), |by| (by.number, by.node))
+    }
+
     fn spoil(&self, number: u32, record: &mut [u8], length: usize) {
         let place = match self.0 {
             Fault::WrongLastByte if number == 0 => length - 1,
             Fault::ByteBeyond if number == 0 => length,
-            Fault::TouchedAtRefusal if (1..=20).contains(&number) => 0,
+            Fault::TouchedAtRefusal if !matches!(number, 0 | 21 | 22) => 0,
+            Fault::TouchedAt30And31 if matches!(number, 30 | 31) => 0,
             _ => return,
         };
         if let Some(byte) = record.get_mut(place) {
@@ -104,10 +129,17 @@ fn faults_are_found() {
         Fault::WorkspaceLeft,
         Fault::RecordLeftAfter22,
         Fault::TouchedAtRefusal,
+        Fault::TouchedAt30And31,
         Fault::WrongConstant,
+        Fault::NodeLeftOut,
+        Fault::NodeOfConstantLeftOut,
+        Fault::LastNode,
+        Fault::LowestNumber,
     ];
     for fault in faults {
-        assert!(differences(fault) > 10, "{fault:?}");
+        let found = differences(fault);
+        println!("{fault:?}: {found}");
+        assert!(found > 10, "{fault:?}");
     }
 }
 

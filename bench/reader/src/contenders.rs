@@ -11,6 +11,13 @@ use oracle::trees::{self, Growth};
 
 use crate::image::Image;
 
+/// `struct refusal`
+#[repr(C)]
+struct Refusal {
+    number: u32,
+    node: u32,
+}
+
 extern "C" {
     fn files_check(
         routine: *const u8,
@@ -19,7 +26,7 @@ extern "C" {
         world_length: usize,
         call: *const u8,
         call_length: usize,
-    ) -> u32;
+    ) -> Refusal;
 
     fn walker_run(
         routine: *const u8,
@@ -61,7 +68,8 @@ impl Lent {
     }
 }
 
-/// Our library: files in, record out; gives the number and the record's length.
+/// Our library: files in, record out; gives the number and the record's length,
+/// or the node that a refusal names.
 pub fn ours(files: &Files, record: &mut [u8], workspace: &mut [u8]) -> (u32, u32) {
     Library.run(files, record, workspace)
 }
@@ -85,12 +93,11 @@ pub fn walker(files: &Files, record: &mut [u8]) -> (u32, u32) {
     (number, length)
 }
 
-/// The check in C, then the walker: any files in, record out; gives the number
-/// and the record's length. It needs no workspace, and looks only how long one
-/// is lent.
+/// The check in C, then the walker: any files in, record out; gives what our
+/// library gives. It needs no workspace, and looks only how long one is lent.
 pub fn checked(files: &Files, record: &mut [u8], workspace: usize) -> (u32, u32) {
     // SAFETY: each pointer comes with the length of its own slice.
-    let number = unsafe {
+    let refusal = unsafe {
         files_check(
             files.routine.as_ptr(),
             files.routine.len(),
@@ -100,10 +107,10 @@ pub fn checked(files: &Files, record: &mut [u8], workspace: usize) -> (u32, u32)
             files.call.len(),
         )
     };
-    match number {
+    match refusal.number {
         0 if workspace < LEAST_WORKSPACE => (20, 0),
         0 => walker(files, record),
-        _ => (number, 0),
+        number => (number, refusal.node),
     }
 }
 

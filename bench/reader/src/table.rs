@@ -42,15 +42,17 @@ fn outcome(mut run: Run) -> Run {
     run
 }
 
-/// The number must be the one that the row is for.
+/// The number must be the one that the row is for, and what comes with it the
+/// judge's.
 pub fn check_refusal(row: &Row, lent: &mut Lent) {
     let verdict = judge(&row.files, row.buffer, row.workspace);
-    assert_eq!(verdict.number, row.number, "{}: judged", row.name);
+    let judged = (row.number, verdict.length);
+    assert_eq!((verdict.number, verdict.length), judged, "{}", row.name);
     let record = &mut lent.record[..row.buffer];
-    let (number, _) = ours(&row.files, record, &mut lent.workspace[..row.workspace]);
-    assert_eq!(number, row.number, "{}: ours", row.name);
-    let (number, _) = checked(&row.files, record, row.workspace);
-    assert_eq!(number, row.number, "{}: C, checked", row.name);
+    let answer = ours(&row.files, record, &mut lent.workspace[..row.workspace]);
+    assert_eq!(answer, judged, "{}: ours", row.name);
+    let answer = checked(&row.files, record, row.workspace);
+    assert_eq!(answer, judged, "{}: C, checked", row.name);
 }
 
 pub fn print(rows: &[Row], refusals: &[Row], lent: &mut Lent) {

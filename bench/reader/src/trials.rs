@@ -13,7 +13,7 @@ const PATTERN: u8 = 0xa5;
 /// The fixed cases, then so many seeds, each once well formed and once damaged.
 pub fn try_all(seeds: u64) {
     let generated = (0..2 * seeds).map(|seed| case(seed, Size::Any));
-    let mut numbers = [0; 23];
+    let mut numbers = [0; 32];
     for (place, case) in fixed().into_iter().chain(generated).enumerate() {
         let verdict = case.judge();
         try_one(&case, &verdict, place);
@@ -24,24 +24,24 @@ pub fn try_all(seeds: u64) {
         "{} accepted cases: the walker's records are the original's",
         numbers[0]
     );
-    println!("{refused} refused cases: the numbers of check and walker are the judge's");
+    println!("{refused} refused cases: the answers of check and walker are the judge's");
     let met = (1..numbers.len()).filter(|number| numbers[*number] != 0);
     let met: Vec<String> = met.map(|n| format!("{n}: {}", numbers[n])).collect();
     println!("  {}\n", met.join(", "));
 }
 
-/// Number, length and the whole buffer must be the judge's.
+/// Both numbers of the answer and the whole buffer must be the judge's.
 fn try_one(case: &Case, verdict: &Verdict, place: usize) {
     let left = left(case, verdict);
-    let length = verdict.record.len() as u32;
     let mut record = vec![PATTERN; left.len()];
     let answer = checked(&case.files, &mut record[..case.buffer], case.workspace);
-    assert_eq!(answer, (verdict.number, length), "case {place}: checked");
+    let judged = (verdict.number, verdict.length);
+    assert_eq!(answer, judged, "case {place}: checked");
     assert!(record == left, "case {place}: the buffer, checked");
     if verdict.number == 0 {
         record.fill(PATTERN);
         let answer = walker(&case.files, &mut record[..case.buffer]);
-        assert_eq!(answer, (0, length), "case {place}: the walker");
+        assert_eq!(answer, judged, "case {place}: the walker");
         assert!(record == left, "case {place}: the buffer, walker");
     }
 }

@@ -9,7 +9,7 @@ use lib.ListN.{length, take, drop}
 use lib.Seq.{take_at}
 use Rattle.layout.specs.Each.{Each}
 use lib.Dec.{lit≤}
-use Rattle.files.specs.Refusal.{refusal, constant_refusal}
+use Rattle.files.specs.Refusal.{fault, files_fault, refusal, constant_fault, constant_refusal}
 use Rattle.definition.specs.Run.{ran, record_of, Verdict, refused, cleared, accepted, number_for, workspace_needed, address_limit, from_state, verdict, number}
 use Rattle.definition.specs.Constant.{constant_run, constant_value, constant_verdict, constant_number}
 use Rattle.definition.specs.Answered.{zeroed, Left, Answered, val_of, val_or, ConstantLeft, ConstantAnswered}
@@ -30,14 +30,15 @@ module _ (routine world call record₀ workspace₀ : List ℕ) where
   unfolding number
   answered_as v l record₁ workspace₁ e h = record { number = ap number_for (sym e); left = rw e h }
 
-  -- 1 to 9
-  pub refused_by_input : (n : ℕ) → refusal routine world call ≡ suc n → Answered routine world call record₀ workspace₀ (suc n) 0 record₀ workspace₀
-  refused_by_input n e = answered_as (refused (suc n)) 0 record₀ workspace₀ (from_input routine world call _ _ n e) (refl, refl, refl)
+  -- 1 to 9, 30 and 31
+  pub refused_by_input : (n : ℕ) → refusal routine world call ≡ suc n
+      → let f = files_fault routine world call in Answered routine world call record₀ workspace₀ f.number f.node record₀ workspace₀
+  refused_by_input n e = let f = files_fault routine world call in answered_as (refused f) f.node record₀ workspace₀ (from_input routine world call _ _ n e) (refl, refl, refl)
 
   module _ (ok : refusal routine world call ≡ 0) where
     -- 20
     pub refused_by_workspace : length workspace₀ < workspace_needed → Answered routine world call record₀ workspace₀ 20 0 record₀ workspace₀
-    refused_by_workspace h = answered_as (refused 20) 0 record₀ workspace₀ (small_workspace routine world call _ _ ok h) (refl, refl, refl)
+    refused_by_workspace h = answered_as (refused (fault 20)) 0 record₀ workspace₀ (small_workspace routine world call _ _ ok h) (refl, refl, refl)
 
     module _ (room : workspace_needed ≤ length workspace₀) where
       abbrev R : List ℕ
@@ -74,14 +75,15 @@ module _ (routine : List ℕ) (node : ℕ) (workspace₀ : List ℕ) where
   unfolding constant_number
   constant_as v known signed bits n workspace₁ e h = record { number = ap number_for (sym e); left = rw e h }
 
-  -- 1 to 7, and 9
-  pub constant_refused : (n : ℕ) → constant_refusal routine node ≡ suc n → ConstantAnswered routine node workspace₀ (suc n) false false 0 0 workspace₀
-  constant_refused n e = constant_as (refused (suc n)) false false 0 0 workspace₀ (constant_from_input routine node _ n e) (refl, refl)
+  -- 1 to 7, 30 and 31, and 9
+  pub constant_refused : (n : ℕ) → constant_refusal routine node ≡ suc n
+      → let f = constant_fault routine node in ConstantAnswered routine node workspace₀ f.number false false 0 f.node workspace₀
+  constant_refused n e = let f = constant_fault routine node in constant_as (refused f) false false 0 f.node workspace₀ (constant_from_input routine node _ n e) (refl, refl)
 
   module _ (ok : constant_refusal routine node ≡ 0) where
     -- 20
     pub constant_by_workspace : length workspace₀ < workspace_needed → ConstantAnswered routine node workspace₀ 20 false false 0 0 workspace₀
-    constant_by_workspace h = constant_as (refused 20) false false 0 0 workspace₀ (constant_small_workspace routine node _ ok h) (refl, refl)
+    constant_by_workspace h = constant_as (refused (fault 20)) false false 0 0 workspace₀ (constant_small_workspace routine node _ ok h) (refl, refl)
 
     module _ (room : workspace_needed ≤ length workspace₀) where
       -- 21

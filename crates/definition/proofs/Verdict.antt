@@ -1,5 +1,5 @@
 -- How a call ends, from what is the case: which number comes first, and what is known of an accepted run. Assumes nothing.
-use mathlib.Core.Path.{◌≡◌, refl, ap, ap₂}
+use mathlib.Core.Path.{◌≡◌, refl, sym, ap, ap₂, ◌∙◌}
 use mathlib.Core.Bool.{Bool, true, false, ◌||◌}
 use mathlib.Core.List.{List}
 use Prim.Native.Nat.{ℕ, zero, suc, ◌≤◌, ◌<◌}
@@ -7,7 +7,7 @@ use native.Mathlib.Nat.{suc-ne-zero}
 use lib.ListN.{length}
 use lib.Dec.{ltb}
 use borrow.Author.Tests.{lt-ltb, le-ltb, ltb-false}
-use Rattle.files.specs.Refusal.{refusal, constant_refusal}
+use Rattle.files.specs.Refusal.{Fault, fault, refusal, files_fault, constant_refusal, constant_fault}
 use Rattle.definition.specs.Run.{ran, record_of, Verdict, refused, cleared, accepted, number_for, workspace_needed, address_limit, from_state, verdict, number}
 use Rattle.definition.specs.Constant.{constant_run, constant_verdict}
 
@@ -61,19 +61,19 @@ module _ (addresses bytes buffer : ℕ) where
 
 -- ---- from the input, then the workspace, then the state
 
-abbrev tests : (refusal : ℕ) → (small : Bool) → Verdict → Verdict
-tests n small v = elim n [ zero ↦ elim small [ true ↦ refused 20 | false ↦ v ] | suc m ↦ refused (suc m) ]
+abbrev tests : Fault → (number : ℕ) → (small : Bool) → Verdict → Verdict
+tests f n small v = elim n [ zero ↦ elim small [ true ↦ refused (fault 20) | false ↦ v ] | suc m ↦ refused f ]
 
 module _ (routine world call : List ℕ) (buffer workspace : ℕ) where
   abbrev pub run_state : Verdict
   run_state = from_state (length (ran routine world call).memory) (length (record_of routine world call)) buffer
 
-  pub from_input : (n : ℕ) → refusal routine world call ≡ suc n → verdict routine world call buffer workspace ≡ refused (suc n)
+  pub from_input : (n : ℕ) → refusal routine world call ≡ suc n → verdict routine world call buffer workspace ≡ refused (files_fault routine world call)
   unfolding verdict
-  from_input n e = rw (e, verdict)
+  from_input n e = ap (λ (m : ℕ). tests (files_fault routine world call) m (ltb workspace workspace_needed) run_state) e
 
   module _ (ok : refusal routine world call ≡ 0) where
-    pub small_workspace : workspace < workspace_needed → verdict routine world call buffer workspace ≡ refused 20
+    pub small_workspace : workspace < workspace_needed → verdict routine world call buffer workspace ≡ refused (fault 20)
     unfolding verdict
     small_workspace h = rw (ok, lt-ltb workspace workspace_needed h, verdict)
 
@@ -91,8 +91,8 @@ module _ (routine world call : List ℕ) (buffer workspace : ℕ) where
   unfolding number verdict
   accepted_run e = go (refusal routine world call) (ltb workspace workspace_needed) refl refl e
     where
-      go : (n : ℕ) (b : Bool) → refusal routine world call ≡ n → ltb workspace workspace_needed ≡ b → number_for (tests n b run_state) ≡ 0 → AcceptedRun
-      go (suc m) b p q e' = absurd (suc-ne-zero m e')
+      go : (n : ℕ) (b : Bool) → refusal routine world call ≡ n → ltb workspace workspace_needed ≡ b → number_for (tests (files_fault routine world call) n b run_state) ≡ 0 → AcceptedRun
+      go (suc m) b p q e' = absurd (suc-ne-zero m (sym p ∙ e'))
       go zero true p q e' = absurd (suc-ne-zero 19 e')
       go zero false p q e' = record { files = p; room = ltb-false workspace workspace_needed q; state = fitting _ _ buffer e' }
 
@@ -100,12 +100,12 @@ module _ (routine : List ℕ) (node workspace : ℕ) where
   abbrev pub constant_state : Verdict
   constant_state = from_state (length (constant_run routine node).after.memory) 0 0
 
-  pub constant_from_input : (n : ℕ) → constant_refusal routine node ≡ suc n → constant_verdict routine node workspace ≡ refused (suc n)
+  pub constant_from_input : (n : ℕ) → constant_refusal routine node ≡ suc n → constant_verdict routine node workspace ≡ refused (constant_fault routine node)
   unfolding constant_verdict
-  constant_from_input n e = rw (e, constant_verdict)
+  constant_from_input n e = ap (λ (m : ℕ). tests (constant_fault routine node) m (ltb workspace workspace_needed) constant_state) e
 
   module _ (ok : constant_refusal routine node ≡ 0) where
-    pub constant_small_workspace : workspace < workspace_needed → constant_verdict routine node workspace ≡ refused 20
+    pub constant_small_workspace : workspace < workspace_needed → constant_verdict routine node workspace ≡ refused (fault 20)
     unfolding constant_verdict
     constant_small_workspace h = rw (ok, lt-ltb workspace workspace_needed h, constant_verdict)
 

@@ -1,5 +1,5 @@
 -- What each entry gives, and what it leaves in the buffers that are lent to it, on all inputs: what the entries' contracts state. Assumes nothing.
-use Rattle.std.specs.Prelude.{◌≡◌, Bool, List, ◌++◌, ℕ, length, drop, replicate, Option, None, Some}
+use Rattle.std.specs.Prelude.{◌≡◌, Bool, false, List, ◌++◌, ℕ, length, drop, replicate, Option, None, Some}
 use Rattle.value.specs.declared.Val.{Val}
 use Rattle.definition.specs.Fields.{no_val}
 use Rattle.definition.specs.Run.{record_of, Verdict, refused, cleared, accepted, verdict, number}
@@ -11,11 +11,12 @@ zeroed s = replicate (length s) 0
 
 -- ---- `run`
 
--- "A run gives 0 and the record's length, a refusal its number and 0": 1 to 9 and 20 leave "record buffer and workspace untouched", "After 21 and 22
--- both buffers are zero throughout; after a run the workspace is zero, and the buffer beyond the record unchanged"
+-- "A run gives 0 and the record's length, a refusal its number and 0", with 5, 30 and 31 "the lowest faulty node's number in place of the 0": 1 to 9, 20, 30
+-- and 31 leave "record buffer and workspace untouched", "After 21 and 22 both buffers are zero throughout; after a run the workspace is zero, and the buffer
+-- beyond the record unchanged"
 module _ (routine world call record₀ workspace₀ : List ℕ) where
   abbrev pub Left : Verdict → (length : ℕ) → (record₁ workspace₁ : List ℕ) → Type 0
-  Left (refused n) l record₁ workspace₁ = (l ≡ 0) × (record₁ ≡ record₀) × (workspace₁ ≡ workspace₀)
+  Left (refused f) l record₁ workspace₁ = (l ≡ f.node) × (record₁ ≡ record₀) × (workspace₁ ≡ workspace₀)
   Left (cleared n) l record₁ workspace₁ = (l ≡ 0) × (record₁ ≡ zeroed record₀) × (workspace₁ ≡ zeroed workspace₀)
   Left accepted l record₁ workspace₁ =
       let r = record_of routine world call in
@@ -35,10 +36,14 @@ abbrev pub val_or : Option Val → Val
 val_or None = no_val
 val_or (Some v) = v
 
+-- after 5, 30 and 31 the node stands where a value's number does
+abbrev pub told : ℕ → Val
+told node = val_of false false 0 node
+
 -- "a node number gives a known value or none", a refusal none; the workspace is as after a run
 module _ (routine : List ℕ) (node : ℕ) (workspace₀ : List ℕ) where
   abbrev pub ConstantLeft : Verdict → Val → (workspace₁ : List ℕ) → Type 0
-  ConstantLeft (refused n) v workspace₁ = (v ≡ no_val) × (workspace₁ ≡ workspace₀)
+  ConstantLeft (refused f) v workspace₁ = (v ≡ told f.node) × (workspace₁ ≡ workspace₀)
   ConstantLeft (cleared n) v workspace₁ = (v ≡ no_val) × (workspace₁ ≡ zeroed workspace₀)
   ConstantLeft accepted v workspace₁ = (v ≡ val_or (constant_value routine node)) × (workspace₁ ≡ zeroed workspace₀)
 

@@ -5,7 +5,7 @@ use Rattle.value.specs.declared.Val.{Val}
 use Rattle.files.specs.Call.{usual}
 use Rattle.files.specs.FileTable.{body}
 use Rattle.files.specs.Program.{Program, program_of, tree_at}
-use Rattle.files.specs.Refusal.{constant_refusal}
+use Rattle.files.specs.Refusal.{fault, constant_fault}
 use Rattle.definition.specs.Question.{World, address_of, size_of, read_at, call_to}
 use Rattle.definition.specs.Act.{End, gave, stopped}
 use Rattle.definition.specs.State.{fresh, Out, run}
@@ -35,13 +35,14 @@ known_only (gave v) = elim v.known [ true ↦ Some v | false ↦ None ]
 unfoldable pub constant_value : (routine : List ℕ) → (node : ℕ) → Option Val
 constant_value routine n = known_only (constant_run routine n).end
 
--- 1 to 7 as for a run, 9 for a node "as in 7", then 20 and 21: no record, so no 22
+-- 1 to 7, 30 and 31 as for a run, 9 for a node "as in 7", then 20 and 21: no record, so no 22
 unfoldable pub constant_verdict : (routine : List ℕ) → (node workspace : ℕ) → Verdict
 constant_verdict routine n workspace =
-    elim (constant_refusal routine n) [
-      | suc m ↦ refused (suc m)
+    let f = constant_fault routine n in
+    elim f.number [
+      | suc m ↦ refused f
       | zero ↦ elim (ltb workspace workspace_needed) [
-        | true ↦ refused 20
+        | true ↦ refused (fault 20)
         | false ↦ from_state (length (constant_run routine n).after.memory) 0 0
       ]
     ]

@@ -4,7 +4,7 @@ use Rattle.std.specs.Prelude.{◌≡◌, true, false, ◌||◌, List, map, ℕ, 
 use Rattle.value.specs.Value.{type, known_val}
 use Rattle.files.specs.Call.{Limits, limits_of}
 use Rattle.files.specs.Program.{Program, program_of}
-use Rattle.files.specs.Refusal.{refusal}
+use Rattle.files.specs.Refusal.{Fault, fault, files_fault}
 use Rattle.definition.specs.Question.{World}
 use Rattle.definition.specs.Act.{Act, End, gave, stopped}
 use Rattle.definition.specs.State.{State, fresh, Out, run}
@@ -52,14 +52,14 @@ record_of routine world call = record_bytes (ran routine world call)
 -- ---- how a call ends, and its number
 
 pub data Verdict : Type 0 where
-  -- 1 to 9 and 20: nothing is touched
-  refused : (number : ℕ) → Verdict
+  -- 1 to 9, 20, 30 and 31: nothing is touched
+  refused : Fault → Verdict
   -- 21 and 22: both buffers are zero throughout
   cleared : (number : ℕ) → Verdict
   accepted : Verdict
 
 abbrev pub number_for : Verdict → ℕ
-number_for (refused n) = n
+number_for (refused f) = f.number
 number_for (cleared n) = n
 number_for accepted = 0
 
@@ -79,13 +79,14 @@ from_state addresses bytes buffer =
       | false ↦ elim (ltb buffer bytes || ltb 4294967295 bytes) [ true ↦ cleared 22 | false ↦ accepted ]
     ]
 
--- "Lowest number first": a refusal from the input, then 20, then what the run comes to
+-- what refuses the input, then 20, then what the run comes to
 unfoldable pub verdict : (routine world call : List ℕ) → (buffer workspace : ℕ) → Verdict
 verdict routine world call buffer workspace =
-    elim (refusal routine world call) [
-      | suc n ↦ refused (suc n)
+    let f = files_fault routine world call in
+    elim f.number [
+      | suc n ↦ refused f
       | zero ↦ elim (ltb workspace workspace_needed) [
-        | true ↦ refused 20
+        | true ↦ refused (fault 20)
         | false ↦ from_state (length (ran routine world call).memory) (length (record_of routine world call)) buffer
       ]
     ]

@@ -1,9 +1,9 @@
 -- How a call of `run` returns, from what its passes came to. Assumes nothing.
-use mathlib.Core.Path.{◌≡◌, refl, sym, ap, ◌∙◌, subst}
+use mathlib.Core.Path.{◌≡◌, sym, ap, ◌∙◌, subst}
 use mathlib.Core.Logic.{◌⊎◌, inl, inr}
 use mathlib.Core.Bool.{Bool, true, false, not}
 use mathlib.Core.List.{List}
-use Prim.Native.Nat.{ℕ, zero, suc, ◌≤◌, ◌<◌}
+use Prim.Native.Nat.{ℕ, ◌≤◌, ◌<◌}
 use native.Mathlib.Omega.{arith}
 use lib.ListN.{length, replicate}
 use lib.Seq.{sets}
@@ -12,8 +12,8 @@ use Rattle.std.specs.Result.{IsErrAnd}
 use Rattle.std.proofs.lemmas.Result.{err_from_is_err_and}
 use Rattle.files.specs.declared.refusal.Refusal.{Refusal}
 use Rattle.files.specs.declared.refusal.Refusal.TheVariants.{Workspace}
-use Rattle.files.specs.Refusal.{refusal, refusal_number, refused, or_else}
-use Rattle.files.proofs.RefusalLaws.{or_refusal}
+use Rattle.files.specs.Refusal.{Fault, fault_of, refused, files_fault, refusal}
+use Rattle.files.proofs.RefusalLaws.{is_refusal}
 use Rattle.definition.specs.Statements as statements
 use Rattle.definition.specs.Record.{Ran, steps_body, record_bytes}
 use Rattle.definition.specs.Run.{ran, record_of, address_limit, workspace_needed}
@@ -129,17 +129,16 @@ module _ (routine world call record₁ workspace₁ : List ℕ) (ok : refusal ro
 -- ---- nothing is touched: the exits by `?`
 
 module _ (routine world call record₀ workspace₀ : List ℕ) (r : Result ℕ Refusal) (e : Refusal) (left : IsErrAnd r (λ x. x ≡ e)) where
-  exits_as : (n : ℕ) → refusal_number e ≡ n → Answered routine world call record₀ workspace₀ n 0 record₀ workspace₀ → Answered routine world call record₀ workspace₀ (refused r) (length_in r) record₀ workspace₀
-  exits_as n h a = let p = err_from_is_err_and r left in rw (p.1, p.2, h) a
+  exits_as : Answered routine world call record₀ workspace₀ (fault_of e).number (fault_of e).node record₀ workspace₀
+      → Answered routine world call record₀ workspace₀ (refused r).number (length_in r) record₀ workspace₀
+  exits_as a = let p = err_from_is_err_and r left in rw (p.1, p.2) a
 
-  -- 1 to 9
-  pub answers_input : refusal routine world call ≡ refusal_number e → Answered routine world call record₀ workspace₀ (refused r) (length_in r) record₀ workspace₀
-  answers_input h = go (refusal_number e) refl (or_refusal e 1)
-    where
-      go : (m : ℕ) → refusal_number e ≡ m → m ≡ or_else m 1 → Answered routine world call record₀ workspace₀ (refused r) (length_in r) record₀ workspace₀
-      go zero d f = absurd (omega (arith, f))
-      go (suc m) d f = exits_as (suc m) d (refused_by_input routine world call record₀ workspace₀ m (h ∙ d))
+  -- 1 to 9, 30 and 31
+  pub answers_input : files_fault routine world call ≡ fault_of e → Answered routine world call record₀ workspace₀ (refused r).number (length_in r) record₀ workspace₀
+  answers_input h =
+      let n = is_refusal e in
+      exits_as (rw h at (refused_by_input routine world call record₀ workspace₀ n.0 (ap (λ (f : Fault). f.number) h ∙ n.1)))
 
   -- 20
-  pub answers_20 : refusal routine world call ≡ 0 → e ≡ Workspace → length workspace₀ < workspace_needed → Answered routine world call record₀ workspace₀ (refused r) (length_in r) record₀ workspace₀
-  answers_20 ok w l = exits_as 20 (ap refusal_number w) (refused_by_workspace routine world call record₀ workspace₀ ok l)
+  pub answers_20 : refusal routine world call ≡ 0 → e ≡ Workspace → length workspace₀ < workspace_needed → Answered routine world call record₀ workspace₀ (refused r).number (length_in r) record₀ workspace₀
+  answers_20 ok w l = exits_as (rw w (refused_by_workspace routine world call record₀ workspace₀ ok l))

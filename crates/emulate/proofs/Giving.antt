@@ -6,14 +6,13 @@ use Rattle.std.specs.Prelude.{Option, None, Some, Result, Ok, Err}
 use Rattle.std.specs.Bool.{then_some}
 use Rattle.std.specs.Result.{IsErrAnd}
 use Rattle.std.proofs.lemmas.Result.{err_from_is_err_and}
-use Prim.Native.Nat.{ℕ, zero, suc, ◌≤◌, ◌<◌}
-use native.Mathlib.Omega.{arith}
+use Prim.Native.Nat.{ℕ, ◌≤◌, ◌<◌}
 use lib.ListN.{length, replicate}
 use Rattle.value.specs.declared.Val.{Val}
 use Rattle.files.specs.declared.refusal.Refusal.{Refusal}
 use Rattle.files.specs.declared.refusal.Refusal.TheVariants.{Workspace}
-use Rattle.files.specs.Refusal.{routine_refusal, constant_refusal, refusal_number, or_else}
-use Rattle.files.proofs.RefusalLaws.{or_refusal}
+use Rattle.files.specs.Refusal.{Fault, no_fault, fault_of, routine_fault, constant_fault, constant_refusal}
+use Rattle.files.proofs.RefusalLaws.{or_refusal, is_refusal}
 use Rattle.definition.specs.Act.{End, gave, stopped}
 use Rattle.definition.specs.Run.{address_limit, workspace_needed}
 use Rattle.definition.specs.Constant.{constant_run, known_only, constant_value}
@@ -30,9 +29,13 @@ then_known : (b : Bool) (v : Val) → elim b [ true ↦ Some v | false ↦ None 
 then_known true v = refl
 then_known false v = refl
 
--- 1 to 7, of the routine alone
-pub routine_input : (routine : List ℕ) (node : ℕ) (e : Refusal) → routine_refusal routine ≡ refusal_number e → refusal_number e ≡ constant_refusal routine node
-unfolding constant_refusal
+-- of a node that is accepted
+pub unrefused : (routine : List ℕ) (node : ℕ) → no_fault ≡ constant_fault routine node → constant_refusal routine node ≡ 0
+unrefused routine node h = ap (λ (f : Fault). f.number) (sym h)
+
+-- 1 to 7, 30 and 31, of the routine alone
+pub routine_input : (routine : List ℕ) (node : ℕ) (e : Refusal) → routine_fault routine ≡ fault_of e → fault_of e ≡ constant_fault routine node
+unfolding constant_fault
 routine_input routine node e h = rw h (or_refusal e _)
 
 module _ (routine : List ℕ) (node : ℕ) (workspace₀ : List ℕ) where
@@ -60,17 +63,15 @@ module _ (routine : List ℕ) (node : ℕ) (workspace₀ : List ℕ) where
   -- ---- nothing is touched: the exits by `?`
 
   module _ (r : Result (Option Val) Refusal) (e : Refusal) (left : IsErrAnd r (λ x. x ≡ e)) where
-    exits_as : (n : ℕ) → refusal_number e ≡ n → ConstantAnswered routine node workspace₀ n false false 0 0 workspace₀ → ConstantGiven routine node workspace₀ r workspace₀
-    exits_as n h a = let p = err_from_is_err_and r left in rw (p.1, p.2, h) a
+    exits_as : ConstantAnswered routine node workspace₀ (fault_of e).number false false 0 (fault_of e).node workspace₀ → ConstantGiven routine node workspace₀ r workspace₀
+    exits_as a = let p = err_from_is_err_and r left in rw (p.1, p.2) a
 
-    -- 1 to 9
-    pub constant_input : refusal_number e ≡ constant_refusal routine node → ConstantGiven routine node workspace₀ r workspace₀
-    constant_input h = go (refusal_number e) refl (or_refusal e 1)
-      where
-        go : (m : ℕ) → refusal_number e ≡ m → m ≡ or_else m 1 → ConstantGiven routine node workspace₀ r workspace₀
-        go zero d f = absurd (omega (arith, f))
-        go (suc m) d f = exits_as (suc m) d (constant_refused routine node workspace₀ m (sym h ∙ d))
+    -- 1 to 9, 30 and 31
+    pub constant_input : fault_of e ≡ constant_fault routine node → ConstantGiven routine node workspace₀ r workspace₀
+    constant_input h =
+        let n = is_refusal e in
+        exits_as (rw (sym h) at (constant_refused routine node workspace₀ n.0 (ap (λ (f : Fault). f.number) (sym h) ∙ n.1)))
 
     -- 20
     pub constant_20 : constant_refusal routine node ≡ 0 → e ≡ Workspace → length workspace₀ < workspace_needed → ConstantGiven routine node workspace₀ r workspace₀
-    constant_20 ok w l = exits_as 20 (ap refusal_number w) (constant_by_workspace routine node workspace₀ ok l)
+    constant_20 ok w l = exits_as (rw w (constant_by_workspace routine node workspace₀ ok l))

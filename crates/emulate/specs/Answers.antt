@@ -2,15 +2,16 @@
 use Rattle.std.specs.Prelude.{◌≡◌, List, ℕ, ◌≤◌, length, Result, Ok, Err}
 use Rattle.std.proofs.lemmas.List.Edits.{sets}
 use Rattle.files.specs.declared.refusal.Refusal.{Refusal}
+use Rattle.files.specs.Refusal.{fault_of}
 use Rattle.definition.specs.Record.{steps_body}
 use Rattle.definition.specs.Run.{ran, record_of}
 use Rattle.definition.specs.Answered.{Answered}
 use Rattle.stream.specs.Bodies.{steps_place}
 
--- the length of a record; 0 where a run is refused
+-- the length of a record; where a run is refused, the node that the refusal tells
 abbrev pub length_in : Result ℕ Refusal → ℕ
 length_in (Ok l) = l
-length_in (Err r) = 0
+length_in (Err r) = (fault_of r).node
 
 -- what `run` gives, from where the first pass left the buffer and the workspace
 pub record AnswersFrom (routine world call record₁ workspace₁ : List ℕ) (n l : ℕ) (record₂ workspace₂ : List ℕ) : Type 0 where

@@ -1,5 +1,5 @@
 // What a constant expression's evaluation comes to, as a caller is given it.
-ghost use Rattle.std.specs.Prelude.{◌≡◌, false};
+ghost use Rattle.std.specs.Prelude.{◌≡◌};
 ghost use Rattle.definition.specs.Answered.{val_of};
 ghost use Rattle.files.specs.Refusal.{refused};
 ghost use Rattle.emulate.specs.Giving.{answer_of, value_in};
@@ -10,7 +10,7 @@ use hosting::Short;
 use value::Val;
 
 impl From<Result<Option<Val>, Refusal>> for Constant {
-    ghost from_gives = { λ r k. (k.refusal ≡ refused r) × (val_of k.known k.signed k.bits k.number ≡ value_in r) };
+    ghost from_gives = { λ r k. (k.refusal ≡ (refused r).number) × (val_of k.known k.signed k.bits k.number ≡ value_in r) };
 
     fn from(r: Result<Option<Val>, Refusal>) -> Constant {
         match r {
@@ -21,19 +21,13 @@ impl From<Result<Option<Val>, Refusal>> for Constant {
                 bits: v.bits,
                 number: v.number,
             },
-            Ok(None) => no_value(0),
-            Err(refusal) => no_value(refusal.into()),
+            Ok(None) => Constant::default(),
+            Err(refusal) => Constant {
+                refusal: refusal.into(),
+                number: refusal.node().into(),
+                ..Constant::default()
+            },
         }
-    }
-}
-
-// A number, and no value.
-fn no_value(refusal: u32) -> Constant
-    ensures { result ≡ record { refusal = refusal; known = false; signed = false; bits = 0; number = 0 } }
-{
-    Constant {
-        refusal,
-        ..Constant::default()
     }
 }
 

@@ -21,7 +21,7 @@ use passes::accepted::Accepted;
 use passes::bodies;
 use value::Val;
 
-// 0 and the record's length, or a refusal's number and 0. (The fields that C reads.)
+// 0 and the record's length, or a refusal's number and the number of the node that it is about, 0 where it is about none. (The fields that C reads.)
 #[repr(C)]
 #[derive(Clone, Copy, PartialEq, Eq)]
 pub struct Answer {
@@ -30,14 +30,14 @@ pub struct Answer {
 }
 
 impl From<Result<u32, Refusal>> for Answer {
-    ghost from_gives = { λ r a. (a.number ≡ refused r) × (a.length ≡ length_in r) };
+    ghost from_gives = { λ r a. (a.number ≡ (refused r).number) × (a.length ≡ length_in r) };
 
     fn from(r: Result<u32, Refusal>) -> Answer {
         match r {
             Ok(length) => Answer { number: 0, length },
             Err(refusal) => Answer {
                 number: refusal.into(),
-                length: 0,
+                length: refusal.node(),
             },
         }
     }
@@ -62,7 +62,7 @@ fn run_on(
     requires workspace_long { workspace_needed ≤ length ws.old }
     requires tabled { Tabled files.routine.bytes.now files.world.bytes.now ws.old index }
     requires ended { Ended (ran_of files) (steps_of files) r.stop ws.old r.at }
-    ensures { AnswersFrom files.entry.routine.bytes.now files.entry.world.bytes.now files.entry.call.bytes.now buffer.old ws.old (refused result) (length_in result) buffer.new ws.new }
+    ensures { AnswersFrom files.entry.routine.bytes.now files.entry.world.bytes.now files.entry.call.bytes.now buffer.old ws.old (refused result).number (length_in result) buffer.new ws.new }
 {
     let at = r.at;
     let l = bodies::measure(ws, at);
@@ -78,7 +78,7 @@ fn run_on(
 // The run of files that are accepted, in a workspace that is long enough. The tables are made once: a walk keeps them.
 fn run_accepted(files: Accepted, buffer: &mut [u8], ws: &mut [u8]) -> Result<u32, Refusal>
     requires { workspace_needed ≤ length ws.old }
-    ensures { Answered files.entry.routine.bytes.now files.entry.world.bytes.now files.entry.call.bytes.now buffer.old ws.old (refused result) (length_in result) buffer.new ws.new }
+    ensures { Answered files.entry.routine.bytes.now files.entry.world.bytes.now files.entry.call.bytes.now buffer.old ws.old (refused result).number (length_in result) buffer.new ws.new }
 {
     let index = setup::set_tables(files.routine, files.world, ws);
     let r = passes::first_pass(files, buffer, ws, index);
@@ -99,7 +99,7 @@ fn record_length(
     buffer: &mut [u8],
     ws: &mut [u8],
 ) -> Result<u32, Refusal>
-    ensures { Answered routine.now world.now call.now buffer.old ws.old (refused result) (length_in result) buffer.new ws.new }
+    ensures { Answered routine.now world.now call.now buffer.old ws.old (refused result).number (length_in result) buffer.new ws.new }
 {
     let files = Accepted::check(routine, world, call)?;
     Refusal::Workspace.unless(workspace::SIZE <= ws.len())?;
@@ -119,7 +119,7 @@ pub fn run(
     record_length(routine, world, call, record, workspace).into()
 }
 
-// A known value or none, and a refusal's number: all 0 but that where there is no value. (The fields that C reads.)
+// A known value or none, and a refusal's number: all 0 but that where there is no value. A node that is refused stands in `number`. (The fields that C reads.)
 #[repr(C)]
 #[derive(Clone, Copy, Default, PartialEq, Eq)]
 pub struct Constant {

@@ -1,6 +1,6 @@
 -- What an accepted routine, world and call have, for those who read them: each check holds, each body lies in its file, and a tree is spelled at
 -- each root that the routine names. Assumes nothing.
-use mathlib.Core.Path.{◌≡◌, refl}
+use mathlib.Core.Path.{◌≡◌, refl, sym, ap, ◌∙◌}
 use mathlib.Core.Bool.{Bool, true, false, not, cond, ◌&&◌, ◌||◌}
 use mathlib.Core.List.{List, [], ◌∷◌}
 use Prim.Native.Nat.{ℕ, zero, suc, ◌+◌, ◌-◌, ◌*◌, ◌/◌, ◌%◌, ◌≤◌, ◌<◌}
@@ -15,15 +15,17 @@ use Rattle.files.specs.FileTable.{offset_of, length_of, HasBody, table_ok, body}
 use Rattle.files.specs.Items.{every}
 use Rattle.files.specs.Names.{names_in, types_in}
 use Rattle.files.specs.Head.{head_ok}
-use Rattle.files.specs.Nodes.{kind_of, root_ok, fields_ok, trees_ok}
+use Rattle.files.specs.Nodes.{kind_of, root_ok, trees_ok}
 use Rattle.files.specs.Blocks.{address_ok, statement_ok, statements_ok, block_ok, blocks_in}
 use Rattle.files.specs.WorldFile.{symbols_ok, regions_in}
 use Rattle.files.specs.Call.{call_body_ok}
-use Rattle.files.specs.Refusal.{names_of, types_of, world_ok, call_ok, first, bodies_refusal, routine_refusal, or_else, refusal, constant_refusal}
+use Rattle.files.specs.Refusal.{Fault, fault, names_of, types_of, world_ok, call_ok, first, or_else, nodes_fault, texts_fault, bodies_fault, routine_fault, routine_refusal, files_fault, refusal, constant_fault, constant_refusal}
 use Rattle.files.specs.Program.{tree, node_of}
 use Rattle.files.specs.Spells.{node_at, Fine, Accepted}
 use Rattle.std.proofs.lemmas.Bool.{and_parts}
 use Rattle.files.proofs.BoolLaws.{AllTrue, each_true}
+use Rattle.files.proofs.FaultLaws.{the_old_five}
+use Rattle.files.proofs.RefusalLaws.{or_next}
 use Rattle.files.proofs.ItemLaws.{every_at}
 use Rattle.files.proofs.TableLaws.{has_body}
 use Rattle.files.proofs.Forest.{stands}
@@ -35,9 +37,12 @@ first_none n [] l h = tt
 first_none n (true ∷ ts) l h = (refl, first_none (n + 1) ts (omega arith) h)
 first_none n (false ∷ ts) l h = absurd (omega arith)
 
-or_none : (m n : ℕ) → or_else m n ≡ 0 → (m ≡ 0) × (n ≡ 0)
-or_none zero n h = (refl, h)
-or_none (suc m) n h = absurd (omega arith)
+or_none : (f g : Fault) → (or_else f g).number ≡ 0 → (f.number ≡ 0) × (g.number ≡ 0)
+or_none f g h = go f.number refl h
+  where
+    go : (n : ℕ) → f.number ≡ n → (elim n as (λ m. Fault) [ zero ↦ g | suc m ↦ f ]).number ≡ 0 → (f.number ≡ 0) × (g.number ≡ 0)
+    go zero e k = (e, k)
+    go (suc m) e k = absurd (omega (arith, e, k))
 
 pub record Bodies (names types head nodes statements blocks : List ℕ) : Type 0 where
   pub named : leb 1 (names_in names) ≡ true
@@ -47,20 +52,26 @@ pub record Bodies (names types head nodes statements blocks : List ℕ) : Type 0
   pub stated : statements_ok nodes statements ≡ true
   pub blocked : leb 1 (blocks_in nodes (length statements / 13) blocks) ≡ true
 
-bodies : (names types head nodes statements blocks : List ℕ) → bodies_refusal names types head nodes statements blocks ≡ 0 → Bodies names types head nodes statements blocks
-unfolding bodies_refusal
+bodies : (names types head nodes statements blocks : List ℕ) → (bodies_fault names types head nodes statements blocks).number ≡ 0 → Bodies names types head nodes statements blocks
+unfolding bodies_fault texts_fault
 bodies names types head nodes statements blocks h =
     let s = statements_ok nodes statements in
     let b = leb 1 (blocks_in nodes (length statements / 13) blocks) in
-    let a = first_none 2
-    (leb 1 (names_in names) ∷ leb 1 (types_in types) ∷ head_ok head (names_of names) (types_of types) ∷ fields_ok nodes (names_of names) (types_of types) ∷ trees_ok nodes ∷ (s && b) ∷ [])
-    (omega arith) h in
-    let l = and_parts s b a.1.1.1.1.1.0 in
+    let texts = leb 1 (names_in names) ∷ leb 1 (types_in types) ∷ [] in
+    let heads = head_ok head (names_of names) (types_of types) ∷ [] in
+    let after = trees_ok nodes ∷ (s && b) ∷ [] in
+    let n = nodes_fault nodes (names_of names) (types_of types) in
+    let o = or_none (fault (first 2 texts)) (or_else (fault (first 4 heads)) (or_else n (fault (first 6 after)))) h in
+    let p = or_none (fault (first 4 heads)) (or_else n (fault (first 6 after))) o.1 in
+    let q = or_none n (fault (first 6 after)) p.1 in
+    let t = first_none 2 texts (omega arith) o.0 in
+    let c = first_none 6 after (omega arith) q.1 in
+    let l = and_parts s b c.1.0 in
     record {
-      named = a.0;
-      typed = a.1.0;
-      headed = a.1.1.0;
-      spelled = record { fields = a.1.1.1.0; trees = a.1.1.1.1.0 };
+      named = t.0;
+      typed = t.1.0;
+      headed = (first_none 4 heads (omega arith) p.0).0;
+      spelled = record { fields = sym (the_old_five nodes (names_of names) (types_of types)) ∙ ap (λ (k : ℕ). eqb k 0) q.0; trees = c.0 };
       stated = l.0;
       blocked = l.1;
     }
@@ -70,10 +81,10 @@ pub record Routine (r : List ℕ) : Type 0 where
   pub bodies : Bodies (body r 0) (body r 1) (body r 2) (body r 3) (body r 4) (body r 5)
 
 pub routine : (r : List ℕ) → routine_refusal r ≡ 0 → Routine r
-unfolding routine_refusal
+unfolding routine_fault
 routine r h = go (table_ok 6 r) refl h
   where
-    go : (t : Bool) → table_ok 6 r ≡ t → cond t (bodies_refusal (body r 0) (body r 1) (body r 2) (body r 3) (body r 4) (body r 5)) 1 ≡ 0 → Routine r
+    go : (t : Bool) → table_ok 6 r ≡ t → (cond t (bodies_fault (body r 0) (body r 1) (body r 2) (body r 3) (body r 4) (body r 5)) (fault 1)).number ≡ 0 → Routine r
     go true e g = record { table = e; bodies = bodies _ _ _ _ _ _ g }
     go false e g = absurd (omega arith)
 
@@ -119,15 +130,15 @@ pub record Run (r w c : List ℕ) : Type 0 where
   pub call : call_ok c ≡ true
 
 pub run : (r w c : List ℕ) → refusal r w c ≡ 0 → Run r w c
-unfolding refusal
+unfolding files_fault
 run r w c h =
-    let o = or_none (routine_refusal r) (first 8 (world_ok w ∷ call_ok c ∷ [])) h in
+    let o = or_none (routine_fault r) (fault (first 8 (world_ok w ∷ call_ok c ∷ []))) h in
     let t = first_none 8 (world_ok w ∷ call_ok c ∷ []) (omega arith) o.1 in
     record { routine = o.0; world = t.0; call = t.1.0 }
 
 pub unrefused : (r w c : List ℕ) → routine_refusal r ≡ 0 → world_ok w ≡ true → call_ok c ≡ true → refusal r w c ≡ 0
-unfolding refusal
-unrefused r w c p q s = simp (p, q, s)
+unfolding files_fault
+unrefused r w c p q s = ap (λ (f : Fault). f.number) (or_next (routine_fault r) _ p) ∙ rw (q, s)
 
 -- a node that `constant_value` accepts
 pub record Constant (r : List ℕ) (n : ℕ) : Type 0 where
@@ -135,9 +146,9 @@ pub record Constant (r : List ℕ) (n : ℕ) : Type 0 where
   pub root : root_ok (body r 3) n ≡ true
 
 pub constant : (r : List ℕ) (n : ℕ) → constant_refusal r n ≡ 0 → Constant r n
-unfolding constant_refusal
+unfolding constant_fault
 constant r n h =
-    let o = or_none (routine_refusal r) (first 9 (root_ok (body r 3) n ∷ [])) h in
+    let o = or_none (routine_fault r) (fault (first 9 (root_ok (body r 3) n ∷ []))) h in
     record { routine = o.0; root = (first_none 9 (root_ok (body r 3) n ∷ []) (omega arith) o.1).0 }
 
 -- ---- bodies in their files

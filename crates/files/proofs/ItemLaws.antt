@@ -1,7 +1,9 @@
--- Loops over a body: items back to back (`read_from`), and what holds of each number (`every`). Assumes nothing.
+-- Loops over a body: items back to back (`read_from`), what holds of each number (`every`), the first that passes (`find`). Assumes nothing.
 use mathlib.Core.Path.{◌≡◌, refl, sym, ap, ◌∙◌}
 use mathlib.Core.Bool.{Bool, true, false, cond, ◌&&◌, and-false, and-true}
 use mathlib.Core.List.{[], ◌∷◌, ◌++◌, map}
+use mathlib.Core.Logic.{◌⊎◌, inl, inr}
+use lib.ListN.{length, get_or}
 use Prim.Native.Nat.{ℕ, zero, suc, ◌+◌, ◌-◌, ◌≤◌, ◌<◌}
 use native.Mathlib.Nat.{not-suc-le-zero}
 use native.Mathlib.Numerals.{add-one}
@@ -9,14 +11,16 @@ use native.Mathlib.Omega.{arith}
 use borrow.Author.Tests.{le-leb, lt-leb, leb-false, ltb-true, ltb-false}
 use lib.Dec.{leb, ltb}
 use denote.Param.Members.{Mut}
-use Rattle.std.specs.Prelude.{Option, None, Some}
+use Rattle.std.specs.Prelude.{Option, None, Some, slice_get}
 use Rattle.std.specs.Fn.{Called}
 use Rattle.std.specs.Iterator.{ChecksAll}
-use Rattle.std.specs.List.{list_all, range_with_len}
+use Rattle.std.specs.List.{list_all, find, range_with_len, position_or_len}
 use Rattle.std.proofs.lemmas.Iterator.{YieldsList}
 use Rattle.std.proofs.lemmas.Iterator.Search.{all_from_yields_List}
-use Rattle.std.proofs.lemmas.List.Folds.{list_all-append, list_all-map}
-use Rattle.std.proofs.lemmas.List.FromFn.{map-range_with_len_more}
+use Rattle.std.proofs.lemmas.Option.{none-some, slice_get_cases, slice_get_within, get_or_from_slice_get}
+use Rattle.std.proofs.lemmas.List.Folds.{find_at, list_all-append, list_all-map}
+use Rattle.std.proofs.lemmas.List.FromFn.{map-range_with_len_more, length-range_with_len, get_or-range_with_len}
+use Rattle.std.proofs.lemmas.List.Sums.{fails_before_first, passes_at_first}
 use Rattle.files.specs.Bytes.{one_less}
 use Rattle.files.specs.World.{unless_zero}
 use Rattle.files.specs.Items.{Items, past, reading, read_from, every}
@@ -139,3 +143,33 @@ module _ (P : ℕ → Bool) where
       go : (t : Bool) → P n ≡ t → t ≡ true
       go true p = refl
       go false p = sym (every_fails c n h p) ∙ e
+
+  -- what holds of each holds of all
+  pub every_each : (c : ℕ) → ((n : ℕ) → n < c → P n ≡ true) → every c P ≡ true
+  unfolding every
+  every_each zero h = refl
+  every_each (suc c) h = rw (every_each c (λ n l. h n (omega arith)), h c (omega arith))
+
+-- ---- a search of the numbers below another
+
+module _ (p : ℕ → Bool) (c : ℕ) where
+  abbrev first_place : ℕ
+  first_place = position_or_len p (range_with_len 0 c)
+
+  -- the first that passes
+  pub found : (n : ℕ) → find p (range_with_len 0 c) ≡ Some n → (n < c) × (p n ≡ true)
+  found n e =
+      let at : slice_get (range_with_len 0 c) first_place ≡ Some n = sym (find_at p (range_with_len 0 c)) ∙ e in
+      let inside : first_place < c = rw length-range_with_len at (slice_get_within (range_with_len 0 c) first_place n at) in
+      let is : 0 + first_place ≡ n = sym (get_or-range_with_len 0 c first_place 0 inside) ∙ get_or_from_slice_get (range_with_len 0 c) first_place n 0 at in
+      (omega (arith, is, inside), rw (get_or-range_with_len 0 c first_place 0 inside, is) at (passes_at_first p (range_with_len 0 c) 0 (rw length-range_with_len inside)))
+
+  pub none_found : find p (range_with_len 0 c) ≡ None → (n : ℕ) → n < c → p n ≡ false
+  none_found e n h =
+      let past : n < first_place = go (slice_get_cases (range_with_len 0 c) first_place).1 in
+      sym (ap p (get_or-range_with_len 0 c n 0 h ∙ omega arith)) ∙ fails_before_first p (range_with_len 0 c) n 0 past
+    where
+      go : ((x : ℕ) × (first_place < length (range_with_len 0 c)) × (slice_get (range_with_len 0 c) first_place ≡ Some x) × (get_or (range_with_len 0 c) first_place x ≡ x))
+          ⊎ ((length (range_with_len 0 c) ≤ first_place) × (slice_get (range_with_len 0 c) first_place ≡ None)) → n < first_place
+      go (inl i) = absurd (none-some i.0 (sym e ∙ find_at p (range_with_len 0 c) ∙ i.2))
+      go (inr i) = omega (arith, i.0, length-range_with_len 0 c, h)

@@ -4,11 +4,12 @@ use mathlib.Core.Bool.{Bool, true, false}
 use Prim.Native.Nat.{ℕ, zero, suc, ◌≤◌, ◌<◌}
 use native.Mathlib.Omega.{arith}
 use lib.Dec.{eqb, ltb}
-use lib.ListN.{get_or-eq_default}
+use mathlib.Core.Logic.{◌⊎◌, inl, inr}
+use lib.ListN.{length, get_or, get_or-eq_default}
 use borrow.Author.Tests.{ltb-true, ltb-false, eqb-true, ne_eqb, eqb-false}
-use Rattle.std.specs.Prelude.{Option, None, Some, Ok, ok_or, slice_get, unwrap_or}
+use Rattle.std.specs.Prelude.{Option, None, Some, Ok, Err, ok_or, slice_get, unwrap_or}
 use Rattle.std.specs.Result.{result_unwrap_or}
-use Rattle.std.proofs.lemmas.Option.{slice_get_within, get_or_from_slice_get, unwrap_or-slice_get}
+use Rattle.std.proofs.lemmas.Option.{slice_get_cases, slice_get_within, get_or_from_slice_get, unwrap_or-slice_get}
 use Rattle.layout.proofs.ArmLaws.{NoneBelow}
 use Rattle.files.specs.Items.{every}
 use Rattle.files.specs.Nodes.{rules, no_rule, rule_of, ref_below, placed_ok, count_ok}
@@ -68,6 +69,14 @@ kind_there k κ e h = go (slice_get kinds k) refl h
         let l : k < 20 = slice_get_within kinds k j p in
         let same : κ ≡ j = cc in
         (l, ap number_of (same ∙ sym (get_or_from_slice_get kinds k j Plain p)) ∙ numbered k l)
+
+-- a number of which no kind is got is past them
+pub kind_missing : {E : Type 0} (k : ℕ) (e x : E) → Err x ≡ ok_or (slice_get kinds k) e → 20 ≤ k
+kind_missing k e x h = go (slice_get_cases kinds k).1
+  where
+    go : ((κ : Kind) × (k < length kinds) × (slice_get kinds k ≡ Some κ) × (get_or kinds k κ ≡ κ)) ⊎ ((length kinds ≤ k) × (slice_get kinds k ≡ None)) → 20 ≤ k
+    go (inl i) = let s : Err x ≡ Ok i.0 = rw i.2 at h in absurd (cc)
+    go (inr i) = i.0
 
 pub kind_or_plain : {E : Type 0} (k : ℕ) (e : E) → result_unwrap_or (ok_or (slice_get kinds k) e) Plain ≡ kind_numbered k
 kind_or_plain k e = go (slice_get kinds k) ∙ unwrap_or-slice_get kinds k Plain

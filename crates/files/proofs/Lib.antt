@@ -9,6 +9,7 @@ pub mod KindLaws
 pub mod TreeLaws
 pub mod BlockLaws
 pub mod WorldLaws
+pub mod FaultLaws
 pub mod RefusalLaws
 pub mod Spelled
 pub mod Forest

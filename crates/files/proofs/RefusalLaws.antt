@@ -2,7 +2,7 @@
 use mathlib.Core.Path.{◌≡◌, refl, sym, ap, ◌∙◌}
 use mathlib.Core.Bool.{Bool, true, false}
 use mathlib.Core.List.{List, [], ◌∷◌}
-use Prim.Native.Nat.{ℕ}
+use Prim.Native.Nat.{ℕ, suc}
 use lib.Dec.{leb}
 use Rattle.std.specs.Prelude.{Result, Ok, Err, MatchResult, Option, None, Some}
 use Rattle.std.specs.Option.{ok_or}
@@ -10,20 +10,23 @@ use Rattle.std.specs.Result.{IsErrAnd}
 use Rattle.std.proofs.lemmas.Result.{err_from_is_err_and}
 use Rattle.files.specs.Bytes.{one_less}
 use Rattle.files.specs.Names.{names_in, types_in, counted}
-use Rattle.files.specs.Refusal.{refusal_number, refused, first, or_else, names_of, types_of}
+use Rattle.files.specs.Refusal.{Fault, fault, fault_of, refused, first, or_else, names_of, types_of}
 use Rattle.files.specs.declared.names.TheConstants.Texts.{NAMES, TYPES}
 use Rattle.files.proofs.NameLaws.{some_names, some_types}
 use Rattle.files.specs.declared.refusal.Refusal.{Refusal}
-use Rattle.files.specs.declared.refusal.Refusal.TheVariants.{RoutineTable, Names, Types, Head, Fields, Trees, Blocks, World, Call, Workspace, Addresses, Record}
+use Rattle.files.specs.declared.refusal.Refusal.TheVariants.{RoutineTable, Names, Types, Head, Kind, Barred, Unused, Trees, Blocks, World, Call, Workspace, Addresses, Record}
 
 -- at the exit of a `?`
-pub exits : {T : Type 0} (r : Result T Refusal) (e : Refusal) → IsErrAnd r (λ x. x ≡ e) → refused r ≡ refusal_number e
-exits r e h = let p = err_from_is_err_and r h in rw p.1 (ap refusal_number p.2)
+pub exits : {T : Type 0} (r : Result T Refusal) (e : Refusal) → IsErrAnd r (λ x. x ≡ e) → refused r ≡ fault_of e
+exits r e h = let p = err_from_is_err_and r h in rw p.1 (ap fault_of p.2)
+
+pub exits_with : {T : Type 0} (P : T → Type 0) (f : Fault) (r : Result T Refusal) (e : Refusal) → IsErrAnd r (λ x. x ≡ e) → f ≡ fault_of e → MatchResult r P (λ x. f ≡ fault_of x)
+exits_with P f r e h i = let p = err_from_is_err_and r h in rw (p.1, p.2) i
 
 -- at a last check
-pub checked : (r : Result (Unit {0}) Refusal) (ok : Bool) (e : Refusal) → MatchResult r (λ _. ok ≡ true) (λ x. (ok ≡ false) × (x ≡ e)) → refused r ≡ first (refusal_number e) (ok ∷ [])
-checked (Ok u) ok e h = rw h
-checked (Err x) ok e h = rw (h.0, h.1)
+pub checked : (r : Result (Unit {0}) Refusal) (ok : Bool) (e : Refusal) (n : ℕ) → fault_of e ≡ fault n → MatchResult r (λ _. ok ≡ true) (λ x. (ok ≡ false) × (x ≡ e)) → refused r ≡ fault (first n (ok ∷ []))
+checked (Ok u) ok e n f h = rw h
+checked (Err x) ok e n f h = rw (h.0, h.1) f
 
 -- a number that there is, or a refusal
 pub counted_err : (o : Option ℕ) (e x : Refusal) → Err x ≡ ok_or o e → (o ≡ None) × (x ≡ e)
@@ -41,17 +44,30 @@ named b o e n h k = some_names b n (sym (counted_ok o e n h) ∙ k)
 pub typed : (b : List ℕ) (o : Option ℕ) (e : Refusal) (n : ℕ) → Ok n ≡ ok_or o e → o ≡ one_less (counted TYPES b) → (leb 1 (types_in b) ≡ true) × (types_of b ≡ n)
 typed b o e n h k = some_types b n (sym (counted_ok o e n h) ∙ k)
 
--- a refusal is no 0
-pub or_refusal : (e : Refusal) (n : ℕ) → refusal_number e ≡ or_else (refusal_number e) n
-or_refusal RoutineTable n = refl
-or_refusal Names n = refl
-or_refusal Types n = refl
-or_refusal Head n = refl
-or_refusal Fields n = refl
-or_refusal Trees n = refl
-or_refusal Blocks n = refl
-or_refusal World n = refl
-or_refusal Call n = refl
-or_refusal Workspace n = refl
-or_refusal Addresses n = refl
-or_refusal Record n = refl
+-- what comes after no fault, and after one
+pub or_next : (f g : Fault) → f.number ≡ 0 → or_else f g ≡ g
+or_next f g h = rw h
+
+or_first : (f g : Fault) (n : ℕ) → f.number ≡ suc n → f ≡ or_else f g
+or_first f g n h = rw h
+
+-- the number of a refusal is no 0
+pub is_refusal : (e : Refusal) → (n : ℕ) × ((fault_of e).number ≡ suc n)
+is_refusal RoutineTable = (0, refl)
+is_refusal Names = (1, refl)
+is_refusal Types = (2, refl)
+is_refusal Head = (3, refl)
+is_refusal (Kind n) = (4, refl)
+is_refusal (Barred n) = (29, refl)
+is_refusal (Unused n) = (30, refl)
+is_refusal Trees = (5, refl)
+is_refusal Blocks = (6, refl)
+is_refusal World = (7, refl)
+is_refusal Call = (8, refl)
+is_refusal Workspace = (19, refl)
+is_refusal Addresses = (20, refl)
+is_refusal Record = (21, refl)
+
+-- so nothing comes after it
+pub or_refusal : (e : Refusal) (f : Fault) → fault_of e ≡ or_else (fault_of e) f
+or_refusal e f = let n = is_refusal e in or_first (fault_of e) f n.0 n.1

@@ -78,7 +78,9 @@ rule_of k = get_or rules k no_rule
 abbrev pub ref_below : ℕ → ℕ → ℕ → ℕ
 ref_below r names types = cond (eqb r 0) 1 (cond (eqb r 1) names (cond (eqb r 2) types 65536))
 
--- 5: "a node's kind, or a field its kind bars or must leave 0"
+-- ---- what document 01 refuses by 5
+
+-- "a node's kind, or a field its kind bars or must leave 0"
 unfoldable pub field_ok : List ℕ → ℕ → ℕ → ℕ → Bool
 field_ok b names types n =
     let r = rule_of (kind_of b n) in
@@ -88,6 +90,34 @@ field_ok b names types n =
 -- "5 looks at its whole nodes"
 unfoldable pub fields_ok : List ℕ → ℕ → ℕ → Bool
 fields_ok b names types = every (length b / 20) (field_ok b names types)
+
+-- ---- and document 02 by 5, 30 and 31: the three together are the same (proofs/FaultLaws: `dealt`, `the_old_five`)
+
+-- 5: "an unknown kind"
+abbrev pub kind_known : List ℕ → ℕ → Bool
+kind_known b n = ltb (kind_of b n) 20
+
+-- a kind uses a field whose most is not 0. What holds of a field that it uses, and that a field that it does not use is 0
+abbrev pub if_used : ℕ → Bool → Bool
+if_used most ok = eqb most 0 || ok
+
+abbrev pub zero_if_unused : ℕ → ℕ → Bool
+zero_if_unused most x = not (eqb most 0) || eqb x 0
+
+-- 30: "A constant width, flag or reference that the kind bars" (no kind that uses a value bars one)
+unfoldable pub used_ok : List ℕ → ℕ → ℕ → ℕ → Bool
+used_ok b names types n =
+    let r = rule_of (kind_of b n) in
+    if_used r.wide (leb r.narrow (width_of b n) && leb (width_of b n) r.wide) && if_used r.flag (leb (flag_of b n) r.flag)
+    && if_used r.ref (ltb (ref_of b n) (ref_below r.ref names types))
+
+-- 31: "an unused field that isn't 0"
+unfoldable pub unused_ok : List ℕ → ℕ → Bool
+unused_ok b n =
+    let r = rule_of (kind_of b n) in
+    zero_if_unused r.flag (flag_of b n) && zero_if_unused r.ref (ref_of b n) && zero_if_unused r.wide (width_of b n) && zero_if_unused r.value (value_of b n)
+
+-- ---- trees
 
 -- 6: "a field node not directly under 17, or another node there": a field just where its parent is a StructInit
 abbrev pub placed_ok : ℕ → ℕ → Bool

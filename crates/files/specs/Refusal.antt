@@ -1,35 +1,52 @@
--- Which number refuses the three files, and which a routine and a node of `constant_value`; 0 where none does (document 01, "From the input").
--- Assumes nothing.
-use Rattle.std.specs.Prelude.{Bool, true, false, cond, ◌&&◌, List, [], ◌∷◌, ℕ, zero, suc, ◌+◌, ◌-◌, ◌/◌, length, leb, Result, Ok, Err}
+-- What refuses the three files, and what a routine and a node of `constant_value`: a number, and the node that it tells (document 01, "From the input";
+-- document 02, A1). Assumes nothing.
+use Rattle.std.specs.Prelude.{Bool, true, false, cond, ◌&&◌, List, [], ◌∷◌, ℕ, zero, suc, ◌+◌, ◌-◌, ◌/◌, length, leb, ltb, Option, None, Some, Result, Ok, Err}
+use Rattle.std.specs.List.{find, range_with_len}
 use Rattle.files.specs.FileTable.{table_ok, body}
 use Rattle.files.specs.Names.{names_in, types_in}
 use Rattle.files.specs.Head.{head_ok}
-use Rattle.files.specs.Nodes.{fields_ok, trees_ok, root_ok}
+use Rattle.files.specs.Nodes.{kind_known, used_ok, unused_ok, trees_ok, root_ok}
 use Rattle.files.specs.Blocks.{statements_ok, blocks_in}
 use Rattle.files.specs.Call.{call_body_ok}
 use Rattle.files.specs.WorldFile.{symbols_ok, regions_in}
 use Rattle.files.specs.declared.refusal.Refusal.{Refusal}
-use Rattle.files.specs.declared.refusal.Refusal.TheVariants.{RoutineTable, Names, Types, Head, Fields, Trees, Blocks, World, Call, Workspace, Addresses, Record}
+use Rattle.files.specs.declared.refusal.Refusal.TheVariants.{RoutineTable, Names, Types, Head, Kind, Barred, Unused, Trees, Blocks, World, Call, Workspace, Addresses, Record}
+
+-- what refuses: its number, 0 where nothing does, and the node that 5, 30 and 31 carry "in place of the 0"
+pub record Fault : Type 0 where
+  pub number : ℕ
+  pub node : ℕ
+
+abbrev pub of_node : ℕ → ℕ → Fault
+of_node number node = record { number = number; node = node }
+
+abbrev pub fault : ℕ → Fault
+fault number = of_node number 0
+
+abbrev pub no_fault : Fault
+no_fault = fault 0
 
 -- "From the input" and "From the state": what each number refuses
-abbrev pub refusal_number : Refusal → ℕ
-refusal_number RoutineTable = 1
-refusal_number Names = 2
-refusal_number Types = 3
-refusal_number Head = 4
-refusal_number Fields = 5
-refusal_number Trees = 6
-refusal_number Blocks = 7
-refusal_number World = 8
-refusal_number Call = 9
-refusal_number Workspace = 20
-refusal_number Addresses = 21
-refusal_number Record = 22
+abbrev pub fault_of : Refusal → Fault
+fault_of RoutineTable = fault 1
+fault_of Names = fault 2
+fault_of Types = fault 3
+fault_of Head = fault 4
+fault_of (Kind node) = of_node 5 node
+fault_of (Barred node) = of_node 30 node
+fault_of (Unused node) = of_node 31 node
+fault_of Trees = fault 6
+fault_of Blocks = fault 7
+fault_of World = fault 8
+fault_of Call = fault 9
+fault_of Workspace = fault 20
+fault_of Addresses = fault 21
+fault_of Record = fault 22
 
--- the number of a check's refusal; 0 where it has none
-abbrev pub refused : {A : Type 0} → Result A Refusal → ℕ
-refused (Ok a) = 0
-refused (Err r) = refusal_number r
+-- what a check finds
+abbrev pub refused : {A : Type 0} → Result A Refusal → Fault
+refused (Ok a) = no_fault
+refused (Err r) = fault_of r
 
 -- how many names, and how many types, an accepted body has
 abbrev pub names_of : List ℕ → ℕ
@@ -52,31 +69,51 @@ first n [] = 0
 first n (false ∷ ts) = n
 first n (true ∷ ts) = first (n + 1) ts
 
--- "Lowest number first .. 2 names. 3 types. 4 head. 5 a node's kind, or a field .. 6 a node body .. 7 statements, blocks, or a root .."
-unfoldable pub bodies_refusal : List ℕ → List ℕ → List ℕ → List ℕ → List ℕ → List ℕ → ℕ
-bodies_refusal names types head nodes statements blocks =
-    first 2
-    (leb 1 (names_in names)
-    ∷ leb 1 (types_in types)
-    ∷ head_ok head (names_of names) (types_of types)
-    ∷ fields_ok nodes (names_of names) (types_of types)
-    ∷ trees_ok nodes
-    ∷ (statements_ok nodes statements && leb 1 (blocks_in nodes (length statements / 13) blocks))
-    ∷ [])
+-- a fault, or where there is none what comes after it
+abbrev pub or_else : Fault → Fault → Fault
+or_else f g = elim f.number [ zero ↦ g | suc m ↦ f ]
+
+-- "30 and 31 are tested after 5 on the same node": the number of what is wrong with a node, 0 where nothing is
+unfoldable pub node_refusal : List ℕ → ℕ → ℕ → ℕ → ℕ
+node_refusal b names types n = cond (kind_known b n) (first 30 (used_ok b names types n ∷ unused_ok b n ∷ [])) 5
+
+-- "the lowest node comes first": it, where one is refused
+unfoldable pub first_faulty : List ℕ → ℕ → ℕ → Option ℕ
+first_faulty b names types = find (λ n. ltb 0 (node_refusal b names types n)) (range_with_len 0 (length b / 20))
+
+unfoldable pub nodes_fault : List ℕ → ℕ → ℕ → Fault
+nodes_fault b names types = elim (first_faulty b names types) [ None ↦ no_fault | Some n ↦ of_node (node_refusal b names types n) n ]
+
+-- "2 names. 3 types."
+unfoldable pub texts_fault : List ℕ → List ℕ → Fault
+texts_fault names types = fault (first 2 (leb 1 (names_in names) ∷ leb 1 (types_in types) ∷ []))
+
+-- after these "4 head", then what is wrong with a node, "then 6": "6 a node body .. 7 statements, blocks, or a root .."
+unfoldable pub bodies_fault : List ℕ → List ℕ → List ℕ → List ℕ → List ℕ → List ℕ → Fault
+bodies_fault names types head nodes statements blocks =
+    or_else (texts_fault names types)
+    (or_else (fault (first 4 (head_ok head (names_of names) (types_of types) ∷ [])))
+    (or_else (nodes_fault nodes (names_of names) (types_of types))
+    (fault (first 6 (trees_ok nodes ∷ (statements_ok nodes statements && leb 1 (blocks_in nodes (length statements / 13) blocks)) ∷ [])))))
 
 -- "1 routine table", then what its six bodies are refused by
-unfoldable pub routine_refusal : List ℕ → ℕ
-routine_refusal r = cond (table_ok 6 r) (bodies_refusal (body r 0) (body r 1) (body r 2) (body r 3) (body r 4) (body r 5)) 1
+unfoldable pub routine_fault : List ℕ → Fault
+routine_fault r = cond (table_ok 6 r) (bodies_fault (body r 0) (body r 1) (body r 2) (body r 3) (body r 4) (body r 5)) (fault 1)
 
--- a refusal, or where there is none what comes after it
-abbrev pub or_else : ℕ → ℕ → ℕ
-or_else zero n = n
-or_else (suc m) n = suc m
+-- what refuses the routine, then 8 for the world and 9 for the call
+unfoldable pub files_fault : List ℕ → List ℕ → List ℕ → Fault
+files_fault r w c = or_else (routine_fault r) (fault (first 8 (world_ok w ∷ call_ok c ∷ [])))
 
--- the routine's number, then 8 for the world and 9 for the call
-unfoldable pub refusal : List ℕ → List ℕ → List ℕ → ℕ
-refusal r w c = or_else (routine_refusal r) (first 8 (world_ok w ∷ call_ok c ∷ []))
+-- what refuses the routine, then 9 for "a `constant_value` node as in 7"
+unfoldable pub constant_fault : List ℕ → ℕ → Fault
+constant_fault r n = or_else (routine_fault r) (fault (first 9 (root_ok (body r 3) n ∷ [])))
 
--- the routine's number, then 9 for "a `constant_value` node as in 7"
-unfoldable pub constant_refusal : List ℕ → ℕ → ℕ
-constant_refusal r n = or_else (routine_refusal r) (first 9 (root_ok (body r 3) n ∷ []))
+-- their numbers
+abbrev pub routine_refusal : List ℕ → ℕ
+routine_refusal r = (routine_fault r).number
+
+abbrev pub refusal : List ℕ → List ℕ → List ℕ → ℕ
+refusal r w c = (files_fault r w c).number
+
+abbrev pub constant_refusal : List ℕ → ℕ → ℕ
+constant_refusal r n = (constant_fault r n).number

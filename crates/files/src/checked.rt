@@ -18,7 +18,7 @@ pub struct Routine<'a> {
 impl<'a> Routine<'a> {
     ghost use Rattle.std.specs.Prelude.{MatchResult};
     ghost use Rattle.files.specs.FileTable.{body};
-    ghost use Rattle.files.specs.Refusal.{refused, refusal_number, constant_refusal};
+    ghost use Rattle.files.specs.Refusal.{fault_of, refused, routine_fault, constant_fault};
 
     // The numbers of its bodies.
     pub(crate) const NAMES: usize = 0;
@@ -35,7 +35,7 @@ impl<'a> Routine<'a> {
 
     // The routine of a file, or what refuses it.
     pub fn check(bytes: &'a [u8]) -> Result<Routine<'a>, Refusal>
-        ensures { MatchResult result (λ r. r.bytes.now ≡ bytes.now) (λ e. routine_refusal bytes.now ≡ refusal_number e) }
+        ensures { MatchResult result (λ r. r.bytes.now ≡ bytes.now) (λ e. routine_fault bytes.now ≡ fault_of e) }
     {
         check_routine(bytes)?;
         Ok(Routine { bytes })
@@ -49,9 +49,9 @@ impl<'a> Routine<'a> {
     }
 
     // What a constant expression at a node of it is refused by.
-    #[tactic(auto, unfolding(crate::specs::Refusal::constant_refusal))]
+    #[tactic(auto, unfolding(crate::specs::Refusal::constant_fault))]
     pub fn check_constant(self, node: usize) -> Result<(), Refusal>
-        ensures { refused result ≡ constant_refusal self.entry.bytes.now node }
+        ensures { refused result ≡ constant_fault self.entry.bytes.now node }
     {
         Refusal::Call.unless(is_root(self.nodes(), node))
     }

@@ -13,8 +13,8 @@ pub mod table;
 pub mod trees;
 pub mod world;
 
-ghost use Rattle.std.specs.Prelude.{◌≡◌};
-ghost use Rattle.files.specs.Refusal.{bodies_refusal, routine_refusal, world_ok, call_ok, refusal, refused, constant_refusal};
+ghost use Rattle.std.specs.Prelude.{◌≡◌, ◌<◌, length, MatchResult};
+ghost use Rattle.files.specs.Refusal.{no_fault, fault_of, refused, names_of, types_of, texts_fault, bodies_fault, routine_fault, world_ok, call_ok, files_fault, constant_fault};
 
 use checked::{Call, Routine, World};
 use kinds::Bounds;
@@ -28,6 +28,17 @@ const WORLD: usize = 3;
 
 const CALL: usize = 1;
 
+// How many names and types there are. (Not inlined: beside the node of another refusal the compiler would make theirs, which is none, at each byte of a text.)
+#[inline(never)]
+fn count_texts(names: &[u8], types: &[u8]) -> Result<Bounds, Refusal>
+    ensures { MatchResult result (λ b. (texts_fault names.now types.now ≡ no_fault) × (names_of names.now ≡ b.names) × (types_of types.now ≡ b.types)) (λ e. texts_fault names.now types.now ≡ fault_of e) }
+{
+    Ok(Bounds {
+        names: names::count(names, Texts::NAMES).ok_or(Refusal::Names)?,
+        types: names::count(types, Texts::TYPES).ok_or(Refusal::Types)?,
+    })
+}
+
 // Refused by one of the six bodies of a routine.
 fn check_bodies(
     names: &[u8],
@@ -37,22 +48,20 @@ fn check_bodies(
     statements: &[u8],
     blocks: &[u8],
 ) -> Result<(), Refusal>
-    ensures { refused result ≡ bodies_refusal names.now types.now head.now nodes.now statements.now blocks.now }
+    requires { length nodes.now < 65536 }
+    ensures { refused result ≡ bodies_fault names.now types.now head.now nodes.now statements.now blocks.now }
 {
-    let bounds = Bounds {
-        names: names::count(names, Texts::NAMES).ok_or(Refusal::Names)?,
-        types: names::count(types, Texts::TYPES).ok_or(Refusal::Types)?,
-    };
+    let bounds = count_texts(names, types)?;
     Refusal::Head.unless(head::check(head, bounds))?;
-    Refusal::Fields.unless(nodes::check(nodes, bounds))?;
+    nodes::check(nodes, bounds)?;
     Refusal::Trees.unless(trees::check(nodes))?;
     Refusal::Blocks.unless(blocks::check(nodes, statements, blocks))
 }
 
 // What a routine file is refused by.
-#[tactic(auto, using(crate::proofs::TableLaws::routine_has), unfolding(crate::specs::Refusal::routine_refusal))]
+#[tactic(auto, using(crate::proofs::TableLaws::routine_has), unfolding(crate::specs::Refusal::routine_fault))]
 pub fn check_routine(routine: &[u8]) -> Result<(), Refusal>
-    ensures { refused result ≡ routine_refusal routine.now }
+    ensures { refused result ≡ routine_fault routine.now }
 {
     Refusal::RoutineTable.unless(table::check(routine, ROUTINE))?;
     let names = body(routine, Routine::NAMES);
@@ -88,9 +97,9 @@ pub fn check_call(call: &[u8]) -> bool
 }
 
 // What the three files are refused by.
-#[tactic(auto, unfolding(crate::specs::Refusal::refusal))]
+#[tactic(auto, unfolding(crate::specs::Refusal::files_fault))]
 pub fn check(routine: &[u8], world: &[u8], call: &[u8]) -> Result<(), Refusal>
-    ensures { refused result ≡ refusal routine.now world.now call.now }
+    ensures { refused result ≡ files_fault routine.now world.now call.now }
 {
     Routine::check(routine)?;
     World::check(world)?;
@@ -99,9 +108,9 @@ pub fn check(routine: &[u8], world: &[u8], call: &[u8]) -> Result<(), Refusal>
 }
 
 // What a routine file and a node of it are refused by.
-#[tactic(auto, unfolding(crate::specs::Refusal::constant_refusal))]
+#[tactic(auto, unfolding(crate::specs::Refusal::constant_fault))]
 pub fn check_constant(routine: &[u8], node: usize) -> Result<(), Refusal>
-    ensures { refused result ≡ constant_refusal routine.now node }
+    ensures { refused result ≡ constant_fault routine.now node }
 {
     Routine::check(routine)?.check_constant(node)
 }

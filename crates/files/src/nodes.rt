@@ -1,12 +1,14 @@
 // Nodes: the fields of one, and what its kind lets them be. (All nodes and the number of one, not the bytes of one: whoever walks a tree goes on by number
 // to its children and past its span. A struct of both, with the fact that the node is inside, was tried: it lies in the caller's frame, so that a walk
 // down a tree takes 61 instructions in place of 54 and 48 bytes more of stack a level, and the contracts above get longer.)
-ghost use Rattle.std.specs.Prelude.{◌≡◌, ◌==◌, ◌+◌, ◌*◌, ◌<◌, ◌≤◌, ◌/◌, length, ltb};
-ghost use Rattle.files.specs.Nodes.{kind_of, flag_of, ref_of, width_of, span_of, value_of, ref_below, field_ok, fields_ok, root_ok};
+ghost use Rattle.std.specs.Prelude.{◌≡◌, ◌==◌, ◌+◌, ◌*◌, ◌<◌, ◌≤◌, ◌/◌, false, length, ltb};
+ghost use Rattle.files.specs.Nodes.{kind_of, flag_of, ref_of, width_of, span_of, value_of, ref_below, field_ok, used_ok, root_ok};
 ghost use Rattle.files.specs.Program.{kind_numbered, number_of};
+ghost use Rattle.files.specs.Refusal.{fault_of, of_node, refused, node_refusal, first_faulty, nodes_fault};
 ghost use Rattle.files.specs.Rules.{refers_number};
 
 use crate::kinds::{Bounds, Kind, Refers, Rule};
+use crate::refusal::Refusal;
 
 // The bytes of a node.
 pub const SIZE: usize = 20;
@@ -98,12 +100,58 @@ fn check_node(b: &[u8], n: usize, bounds: Bounds) -> bool
     (f <= rule.flag) & below & (rule.narrow <= w) & (w <= rule.wide) & (v <= rule.value)
 }
 
-// Whether each whole node is as its kind lets it be.
-pub fn check(b: &[u8], bounds: Bounds) -> bool
-    ensures { result ≡ fields_ok b.now bounds.names bounds.types }
+// Whether the width, the flag and the reference of node n are as its kind lets them be, where the kind uses them.
+#[tactic(auto, unfolding(crate::specs::Nodes::used_ok))]
+fn check_used(b: &[u8], n: usize, kind: Kind, bounds: Bounds) -> bool
+    requires { (n * 20 + 20 ≤ length b.now) × (kind_of b.now n ≡ number_of kind) }
+    ensures { result ≡ used_ok b.now bounds.names bounds.types n }
+{
+    let rule = Rule::from(kind);
+    let w = width(b, n);
+    let f = flag(b, n);
+    let r = reference(b, n);
+    let wide = (rule.wide == 0) | ((rule.narrow <= w) & (w <= rule.wide));
+    let flagged = (rule.flag == 0) | (f <= rule.flag);
+    let below = (rule.refers == Refers::Nothing) | is_below(rule.refers, r, bounds);
+    wide & flagged & below
+}
+
+// What is wrong with node n, which check_node refuses: one node of a body is asked this, so that the others cost one test. (A body of a file is shorter than
+// 65,536 bytes, so the node's number fits.)
+fn fault(b: &[u8], n: usize, bounds: Bounds) -> Refusal
+    requires short { length b.now < 65536 }
+    requires inside { n * 20 + 20 ≤ length b.now }
+    requires refused { field_ok b.now bounds.names bounds.types n ≡ false }
+    ensures { fault_of result ≡ of_node (node_refusal b.now bounds.names bounds.types n) n }
+{
+    let node = n as u32;
+    let Ok(kind) = Kind::try_from(kind_number(b, n)) else {
+        return Refusal::Kind(node);
+    };
+    if !check_used(b, n, kind, bounds) {
+        return Refusal::Barred(node);
+    }
+    Refusal::Unused(node)
+}
+
+// The first whole node that is not as its kind lets it be.
+fn first_faulty(b: &[u8], bounds: Bounds) -> Option<usize>
+    ensures { result ≡ first_faulty b.now bounds.names bounds.types }
 {
     let count = b.len() / SIZE;
-    (0..count).all(|n| check_node(b, n, bounds))
+    (0..count).find(|n| !check_node(b, *n, bounds))
+}
+
+// What is wrong with that node, if there is one.
+#[tactic(auto, unfolding(crate::specs::Refusal::nodes_fault))]
+pub fn check(b: &[u8], bounds: Bounds) -> Result<(), Refusal>
+    requires { length b.now < 65536 }
+    ensures { refused result ≡ nodes_fault b.now bounds.names bounds.types }
+{
+    match first_faulty(b, bounds) {
+        None => Ok(()),
+        Some(n) => Err(fault(b, n, bounds)),
+    }
 }
 
 // Whether n is a node and no field.

@@ -1,4 +1,4 @@
-// Cases in pages: a name, the expected number, and the files, each coded as pieces that stand there so many times.
+// Cases in pages: a name, the expected number and node, and the files, each coded as pieces that stand there so many times.
 use anyhow::Context;
 use bytes::Buf;
 use files::refusal::Refusal;
@@ -33,30 +33,36 @@ fn constant(rt: &impl Alloc, page: &mut &[u8]) -> anyhow::Result<Result<(), Refu
     Ok(files::check_constant(&routine, node))
 }
 
+// Reports a case whose files are not refused by this number, or not with this node.
 fn report(
     rt: &impl Print,
     name: &[u8],
-    expected: u8,
+    number: u32,
+    node: u32,
     checked: Result<(), Refusal>,
 ) -> io::Result<()> {
-    let found = checked.map_or_else(u32::from, |()| 0);
-    if found == expected as u32 {
+    let (found, at) = match checked {
+        Ok(()) => (0, 0),
+        Err(refusal) => (u32::from(refusal), refusal.node()),
+    };
+    if found == number && at == node {
         return Ok(());
     }
     rt.write_all(name)?;
-    println!(rt; ": expected {expected}, found {found}")
+    println!(rt; ": expected {number} and node {node}, found {found} and node {at}")
 }
 
 // The case at the front of a page.
 fn compare(rt: &(impl Alloc + Print), page: &mut &[u8]) -> anyhow::Result<()> {
     let size = page.try_get_u8()? as usize;
     let name = page.split_off(..size).context("a page ends early")?;
-    let expected = page.try_get_u8()?;
+    let number = page.try_get_u8()? as u32;
+    let node = page.try_get_u32_le()?;
     let checked = match page.try_get_u8()? {
         1 => constant(rt, page)?,
         _ => run(rt, page)?,
     };
-    report(rt, name, expected, checked)?;
+    report(rt, name, number, node, checked)?;
     Ok(())
 }
 

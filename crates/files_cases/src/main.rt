@@ -1,4 +1,4 @@
-// Runs each case of data/cases.bin, which tools/files_reference.py writes, through the checks of the files, and compares the numbers.
+// Runs each case of data/cases.bin, which tools/files_reference.py writes, through the checks of the files, and compares the numbers and nodes.
 #![tactic(auto)]
 
 mod cases;

@@ -1,9 +1,10 @@
 -- An accepted run: what its routine and its record give to those that print its lines. Assumes nothing.
-use mathlib.Core.Path.{◌≡◌, sym, ap₂, ◌∙◌, subst}
+use mathlib.Core.Path.{◌≡◌, sym, ap, ap₂, ◌∙◌, subst}
 use mathlib.Core.List.{List}
 use Prim.Native.Nat.{ℕ, ◌≤◌, ◌<◌}
 use native.Mathlib.Omega.{arith}
-use lib.ListN.{length, take, length-append}
+use native.Mathlib.Nat.{min-le_right}
+use lib.ListN.{length, take, length-append, length-take}
 use Rattle.layout.specs.Number.{number_at}
 use Rattle.files.specs.FileTable.{body}
 use Rattle.files.specs.Refusal.{routine_refusal}
@@ -14,7 +15,7 @@ use Rattle.definition.specs.Record.{join, pairs, layout, Ran, bodies, record_byt
 use Rattle.definition.specs.Run.{ran, number, record_of, workspace_needed}
 use Rattle.definition.specs.Answered.{Answered}
 use Rattle.definition.proofs.Verdict.{accepted_run}
-use Rattle.definition.proofs.Answered.{record_left}
+use Rattle.definition.proofs.Answered.{length_left, record_left}
 use Rattle.text.specs.Read.{StopThere}
 use Rattle.text.proofs.Listing.{stop_inside, steps_inside, variables_inside}
 use Rattle.text.proofs.FitPrograms.{head_there, record_short}
@@ -74,6 +75,13 @@ module _ {routine world call record₀ workspace₀ : List ℕ} {n l : ℕ} {rec
 
   record_taken : take l record₁ ≡ record_of routine world call
   record_taken = record_left routine world call record₀ workspace₀ l record₁ workspace₁ answered_zero
+
+  -- it is as long as the answer says, and lies in the buffer
+  pub taken_long : l ≡ length (take l record₁)
+  taken_long = length_left routine world call record₀ workspace₀ l record₁ workspace₁ answered_zero ∙ ap length (sym record_taken)
+
+  pub taken_inside : l ≤ length record₁
+  taken_inside = omega (arith, taken_long, length-take l record₁, min-le_right l (length record₁))
 
   pub run_of : length record₀ ≡ 65536 → length workspace₀ ≡ 65536 → RunOf routine (take l record₁)
   run_of p q = record {

@@ -11,16 +11,16 @@ pub struct Accepted<'a> {
 
 impl<'a> Accepted<'a> {
     ghost use Rattle.std.specs.Prelude.{◌≡◌, MatchResult};
-    ghost use Rattle.files.specs.Refusal.{refusal, refusal_number};
+    ghost use Rattle.files.specs.Refusal.{files_fault, fault_of};
 
     // The files, or what refuses them. (`files::check` says as much of files whose values nobody wants.)
-    #[tactic(auto, unfolding(files::specs::Refusal::refusal))]
+    #[tactic(auto, unfolding(files::specs::Refusal::files_fault))]
     pub fn check(
         routine: &'a [u8],
         world: &'a [u8],
         call: &'a [u8],
     ) -> Result<Accepted<'a>, Refusal>
-        ensures { MatchResult result (λ f. (f.routine.bytes.now ≡ routine.now) × (f.world.bytes.now ≡ world.now) × (f.call.bytes.now ≡ call.now)) (λ r. refusal routine.now world.now call.now ≡ refusal_number r) }
+        ensures { MatchResult result (λ f. (f.routine.bytes.now ≡ routine.now) × (f.world.bytes.now ≡ world.now) × (f.call.bytes.now ≡ call.now)) (λ r. files_fault routine.now world.now call.now ≡ fault_of r) }
     {
         Ok(Accepted {
             routine: Routine::check(routine)?,

@@ -1,6 +1,5 @@
 // A case run, and whether all that comes of it is what the original answered.
 use crate::cases::{Case, Constant, Run, Store};
-use emulate::Answer;
 use files::refusal::Refusal;
 use std::alloc::Global;
 
@@ -44,16 +43,13 @@ fn run_agrees(alloc: Global, case: Run, store: &Store) -> anyhow::Result<bool> {
         &mut buffer,
         &mut workspace,
     );
+    let number = case.answer.number;
     // Only number 0 has a record.
-    let record: &[u8] = if case.number == 0 { &store.record } else { b"" };
-    let answer = Answer {
-        number: case.number,
-        length: u32::try_from(record.len())?,
-    };
+    let record: &[u8] = if number == 0 { &store.record } else { b"" };
     Ok(
-        found == answer
-            && holds(&buffer, record, is_late(case.number))
-            && is_left(&workspace, case.number),
+        found == case.answer
+            && holds(&buffer, record, is_late(number))
+            && is_left(&workspace, number),
     )
 }
 

@@ -3,6 +3,7 @@
 use crate::coding::{LONGEST, follow};
 use anyhow::ensure;
 use bytes::Buf;
+use emulate::Answer;
 use std::alloc::Global;
 
 #[derive(Drop)]
@@ -24,12 +25,12 @@ impl Store {
     }
 }
 
-// A run with buffers of two lengths, and the number that it answers. Where that is 0 its record is in the store.
+// A run with buffers of two lengths, and the answer. Where its number is 0 the record is in the store.
 #[derive(Clone, Copy)]
 pub struct Run {
     pub record: usize,
     pub workspace: usize,
-    pub number: u32,
+    pub answer: Answer,
 }
 
 // The value of a constant with a workspace of a length, and the answer.
@@ -53,7 +54,7 @@ fn room(case: &mut &[u8]) -> anyhow::Result<usize> {
     Ok(size)
 }
 
-// routine, world, call, record buffer length u32, workspace length u32, number u8, record
+// routine, world, call, record buffer length u32, workspace length u32, number u8, length u32 (or the faulty node's number), record
 fn take_run(case: &mut &[u8], store: &mut Store) -> anyhow::Result<Run> {
     follow(case, &mut store.routine)?;
     follow(case, &mut store.world)?;
@@ -61,10 +62,13 @@ fn take_run(case: &mut &[u8], store: &mut Store) -> anyhow::Result<Run> {
     let run = Run {
         record: room(case)?,
         workspace: room(case)?,
-        number: case.try_get_u8()? as u32,
+        answer: Answer {
+            number: case.try_get_u8()? as u32,
+            length: case.try_get_u32_le()?,
+        },
     };
     // Only number 0 has a record; else the last one stays.
-    if run.number == 0 {
+    if run.answer.number == 0 {
         follow(case, &mut store.record)?;
     }
     Ok(run)

@@ -7,9 +7,9 @@ use bytes::Buf;
 use std::alloc::Global;
 
 // The file's first bytes.
-const KIND: &[u8] = b"VEC1";
+const KIND: &[u8] = b"VEC2";
 
-// `VEC1`, the count of cases u32, and for each its length u32 and its bytes. A case that is not well made ends the program.
+// `VEC2`, the count of cases u32, and for each its length u32 and its bytes. A case that is not well made ends the program.
 pub fn replay(rt: &impl Print, alloc: Global, mut file: &[u8]) -> anyhow::Result<()> {
     let kind = file.split_off(..KIND.len()).context("the file ends early")?;
     ensure!(kind == KIND, "it is no file of cases");

@@ -97,7 +97,9 @@ fn keep(name: &str, files: &Files) -> std::io::Result<PathBuf> {
 
 fn compare_fixed(tally: &mut Tally) {
     for (number, case) in fixed().iter().enumerate() {
-        compare_case(tally, &format!("fixed-{number}"), case);
+        let name = format!("fixed-{number}");
+        compare_case(tally, &name, case);
+        compare_constants(tally, &name, case, case.constants());
     }
 }
 
@@ -105,12 +107,16 @@ fn compare_seed(tally: &mut Tally, seed: u64) {
     let case = case(seed, Size::Any);
     let name = seed.to_string();
     compare_case(tally, &name, &case);
-    let routine = &case.files.routine;
-    for node in constant_nodes(routine, seed) {
+    let nodes = constant_nodes(&case.files.routine, seed);
+    compare_constants(tally, &name, &case, &nodes);
+}
+
+fn compare_constants(tally: &mut Tally, name: &str, case: &Case, nodes: &[u32]) {
+    for node in nodes {
         tally.constants += 1;
-        match compare_constant(&Library, routine, node, case.workspace) {
+        match compare_constant(&Library, &case.files.routine, *node, case.workspace) {
             Ok(answer) => tally.coverage.count_constant(&answer),
-            Err(difference) => tally.differs(&name, &case.files, &difference),
+            Err(difference) => tally.differs(name, &case.files, &difference),
         }
     }
 }

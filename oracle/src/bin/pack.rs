@@ -2,8 +2,9 @@
 //! `pack FILE CASES LARGE FIRST-SEED`.
 //!
 //! The fixed cases come first, then LARGE cases of any size, then small ones,
-//! until there are CASES in all. Every second one is damaged. Large ones and
-//! every fourth small one are followed by two of `constant_value`.
+//! until there are CASES at least. Every second one is damaged. Large ones, every
+//! fourth small one and the fixed ones with faulty nodes are followed by two of
+//! `constant_value`.
 //!
 //! Prints what the cases reach, and ends with 1 if something is not reached
 //! or the file is too large.
@@ -33,6 +34,9 @@ fn main() -> ExitCode {
     let mut maker = Maker::default();
     for case in fixed() {
         maker.run(&case);
+        for node in case.constants() {
+            maker.constant(&case, *node);
+        }
     }
     for seed in first..first + large {
         maker.seed(seed, Size::Any);
@@ -75,6 +79,7 @@ impl Maker {
             buffer: case.buffer as u32,
             workspace: case.workspace as u32,
             number: verdict.number,
+            length: verdict.length,
             record: verdict.record,
         });
     }

@@ -24,7 +24,7 @@ fn main() {
     let buffer = length(&arguments, 1, 65_536);
     let workspace = length(&arguments, 2, LEAST_WORKSPACE);
     let verdict = judge(&files, buffer, workspace);
-    println!("number {}, length {}", verdict.number, verdict.record.len());
+    println!("number {}, length {}", verdict.number, verdict.length);
     print!("{}{}", hex::text(&verdict.record), verdict.listing());
 }
 

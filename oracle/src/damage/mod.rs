@@ -3,6 +3,7 @@
 //! Some damages leave a case that is still accepted; the refusal checker says
 //! which refusal, if any, the result meets.
 
+mod nodes;
 pub mod places;
 mod trees;
 
@@ -19,12 +20,13 @@ pub struct Damaged {
 }
 
 /// The kinds of damage.
-pub const KINDS: [&str; 7] = [
+pub const KINDS: [&str; 8] = [
     "one field",
     "several fields",
     "table field",
     "body length",
     "tree shape",
+    "nodes",
     "random bytes",
     "strange file",
 ];
@@ -32,7 +34,7 @@ pub const KINDS: [&str; 7] = [
 /// The damage of a seed.
 pub fn damaged(seed: u64, sources: Sources) -> Damaged {
     let mut random = Random::new(seed);
-    let kind = *random.pick(&[0, 0, 0, 0, 0, 0, 1, 1, 2, 3, 3, 4, 4, 5, 6]);
+    let kind = *random.pick(&[0, 0, 0, 0, 0, 0, 1, 1, 2, 3, 3, 4, 4, 5, 5, 5, 6, 7]);
     let files = match kind {
         0 => fields(&mut random, &sources, 1),
         1 => {
@@ -42,7 +44,8 @@ pub fn damaged(seed: u64, sources: Sources) -> Damaged {
         2 => table_field(&mut random, &sources),
         3 => body_length(&mut random, &sources),
         4 => trees::misshapen(&mut random, sources).files(),
-        5 => random_bytes(&mut random, &sources),
+        5 => faulty_nodes(&mut random, &sources),
+        6 => random_bytes(&mut random, &sources),
         _ => strange_file(&mut random, &sources),
     };
     Damaged {
@@ -123,6 +126,12 @@ fn body_length(random: &mut Random, sources: &Sources) -> Files {
         }
         _ => body.extend((0..count).map(|_| random.bits() as u8)),
     }
+    files(&bodies)
+}
+
+fn faulty_nodes(random: &mut Random, sources: &Sources) -> Files {
+    let mut bodies = bodies(sources);
+    nodes::faulty(random, &mut bodies[0]);
     files(&bodies)
 }
 

@@ -88,6 +88,11 @@ pub fn number(bytes: &[u8], (at, width): Place) -> u64 {
     u64::from_le_bytes(word)
 }
 
+/// Put a number into a field, as far as it fits.
+pub fn put(bytes: &mut [u8], (at, width): Place, new: u64) {
+    bytes[at..at + width].copy_from_slice(&new.to_le_bytes()[..width]);
+}
+
 /// Numbers at the edges of what document 01 allows somewhere.
 const EDGES: [u64; 24] = [
     0, 1, 2, 3, 4, 8, 9, 16, 17, 18, 19, 20, 0x1f, 0x20, 0x21, 0x7e, 0x7f, 64, 65, 255, 256, 512,
@@ -96,15 +101,14 @@ const EDGES: [u64; 24] = [
 
 /// Put another number into a field.
 pub fn change(random: &mut Random, bytes: &mut [u8], place: Place) {
-    let (at, width) = place;
     let old = number(bytes, place);
     let new = match random.below(8) {
         0 => old.wrapping_add(1),
         1 => old.wrapping_sub(1),
         2 => u64::MAX,
-        3 => old ^ (1 << random.below(8 * width)),
+        3 => old ^ (1 << random.below(8 * place.1)),
         4 => random.bits(),
         _ => *random.pick(&EDGES),
     };
-    bytes[at..at + width].copy_from_slice(&new.to_le_bytes()[..width]);
+    put(bytes, place, new);
 }

@@ -9,7 +9,7 @@ use crate::files;
 use crate::judge::Files;
 use crate::original;
 use crate::random::Random;
-use crate::refusal::refusal;
+use crate::refusal::check;
 use crate::source::{Call, Routine, World};
 
 /// A case in words, which the damager can still change.
@@ -53,7 +53,7 @@ fn accepted(choice: &mut Random, size: Size) -> Sources {
     loop {
         let draft = draft(choice, size);
         let files = draft.files();
-        if refusal(&files.routine, &files.world, &files.call) == 0 {
+        if check(&files.routine, &files.world, &files.call).is_ok() {
             return draft;
         }
     }

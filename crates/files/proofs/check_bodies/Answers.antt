@@ -1,49 +1,34 @@
-use mathlib.Core.Path.{◌∙◌, sym}
-use Rattle.files.specs.Refusal.{bodies_refusal}
-use Rattle.files.proofs.NameLaws.{no_names, no_types}
-use Rattle.files.proofs.RefusalLaws.{exits, checked, counted_err, named, typed}
+use mathlib.Core.Path.{◌∙◌, refl}
+use Rattle.files.specs.Refusal.{bodies_fault}
+use Rattle.files.proofs.RefusalLaws.{exits, checked, or_refusal}
 use Rattle.files.proofs.check_bodies.Goals as goal
 
-pub returns-in_err-ok_or : goal.returns-in_err-ok_or
-unfolding bodies_refusal
-returns-in_err-ok_or c =
-    let e = counted_err _ _ _ c.in_err-ok_or.ensures.value in
-    exits _ _ c.from_residual.ensures.1 ∙ simp (e.1, no_names _ (sym e.0 ∙ c.count.ensures))
-
-pub returns-in_err-ok_or-2 : goal.returns-in_err-ok_or-2
-unfolding bodies_refusal
-returns-in_err-ok_or-2 c =
-    let n = named _ _ _ _ c.in_ok-ok_or.ensures.value c.count.ensures in
-    let e = counted_err _ _ _ c.in_err-ok_or-2.ensures.value in
-    exits _ _ c.from_residual-in_err-ok_or-2.ensures.1 ∙ simp (e.1, n.0, no_types _ (sym e.0 ∙ c.count-2.ensures))
+pub returns-in_err-bounds : goal.returns-in_err-bounds
+unfolding bodies_fault
+returns-in_err-bounds c = exits _ _ c.from_residual.ensures.1 ∙ simp c.in_err-bounds.ensures (or_refusal _ _)
 
 pub returns-in_err-unless : goal.returns-in_err-unless
-unfolding bodies_refusal
+unfolding bodies_fault
 returns-in_err-unless c =
-    let n = named _ _ _ _ c.in_ok-ok_or.ensures.value c.count.ensures in
-    let t = typed _ _ _ _ c.in_ok-ok_or-2.ensures.value c.count-2.ensures in
-    exits _ _ c.from_residual-in_err-unless.ensures.1 ∙ simp (c.in_err-unless.ensures.1, n.0, t.0, n.1, t.1, ← c.check.ensures, c.in_err-unless.ensures.0)
+    let t = c.in_ok-bounds.ensures in
+    exits _ _ c.from_residual-in_err-unless.ensures.1 ∙ simp (c.in_err-unless.ensures.1, t.0, t.1, t.2, ← c.check.ensures, c.in_err-unless.ensures.0)
+
+pub returns-in_err-check : goal.returns-in_err-check
+unfolding bodies_fault
+returns-in_err-check c =
+    let t = c.in_ok-bounds.ensures in
+    exits _ _ c.from_residual-in_err-check.ensures.1 ∙ simp (t.0, t.1, t.2, ← c.check.ensures, c.in_ok-unless.ensures, ← c.in_err-check.ensures) (or_refusal _ _)
 
 pub returns-in_err-unless-2 : goal.returns-in_err-unless-2
-unfolding bodies_refusal
+unfolding bodies_fault
 returns-in_err-unless-2 c =
-    let n = named _ _ _ _ c.in_ok-ok_or.ensures.value c.count.ensures in
-    let t = typed _ _ _ _ c.in_ok-ok_or-2.ensures.value c.count-2.ensures in
+    let t = c.in_ok-bounds.ensures in
     exits _ _ c.from_residual-in_err-unless-2.ensures.1
-    ∙ simp (c.in_err-unless-2.ensures.1, n.0, t.0, n.1, t.1, ← c.check.ensures, c.in_ok-unless.ensures, ← c.check-2.ensures, c.in_err-unless-2.ensures.0)
-
-pub returns-in_err-unless-3 : goal.returns-in_err-unless-3
-unfolding bodies_refusal
-returns-in_err-unless-3 c =
-    let n = named _ _ _ _ c.in_ok-ok_or.ensures.value c.count.ensures in
-    let t = typed _ _ _ _ c.in_ok-ok_or-2.ensures.value c.count-2.ensures in
-    exits _ _ c.from_residual-in_err-unless-3.ensures.1
-    ∙ simp (c.in_err-unless-3.ensures.1, n.0, t.0, n.1, t.1, ← c.check.ensures, c.in_ok-unless.ensures, ← c.check-2.ensures, c.in_ok-unless-2.ensures, ← c.check-3.ensures, c.in_err-unless-3.ensures.0)
+    ∙ simp (c.in_err-unless-2.ensures.1, t.0, t.1, t.2, ← c.check.ensures, c.in_ok-unless.ensures, ← c.in_ok-check.ensures, ← c.check-3.ensures, c.in_err-unless-2.ensures.0)
 
 pub returns : goal.returns
-unfolding bodies_refusal
+unfolding bodies_fault
 returns c =
-    let n = named _ _ _ _ c.in_ok-ok_or.ensures.value c.count.ensures in
-    let t = typed _ _ _ _ c.in_ok-ok_or-2.ensures.value c.count-2.ensures in
-    checked _ _ _ c.unless-4.ensures
-    ∙ simp (n.0, t.0, n.1, t.1, ← c.check.ensures, c.in_ok-unless.ensures, ← c.check-2.ensures, c.in_ok-unless-2.ensures, ← c.check-3.ensures, c.in_ok-unless-3.ensures, ← c.check-4.ensures)
+    let t = c.in_ok-bounds.ensures in
+    checked _ _ _ 7 refl c.unless-3.ensures
+    ∙ simp (t.0, t.1, t.2, ← c.check.ensures, c.in_ok-unless.ensures, ← c.in_ok-check.ensures, ← c.check-3.ensures, c.in_ok-unless-2.ensures, ← c.check-4.ensures)
