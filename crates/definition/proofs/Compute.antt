@@ -14,7 +14,7 @@ use Rattle.files.specs.Items.{reading, read_from, every}
 use Rattle.files.specs.Names.{printable, before, name_at, names_in, type_at, types_in}
 use Rattle.files.specs.Nodes.{rule_of, used_ok, unused_ok, trees_from, trees, trees_ok, root_ok}
 use Rattle.files.specs.Program.{tree_from, tree_at, case_of, listed, blocks_from, program_of}
-use Rattle.files.specs.Refusal.{world_ok, call_ok, node_refusal, first_faulty, nodes_fault, texts_fault, bodies_fault, routine_fault, files_fault, constant_fault}
+use Rattle.files.specs.Refusal.{world_ok, call_ok, node_fault, nodes_fault, bodies_fault, routine_fault, files_fault, constant_fault}
 use Rattle.files.specs.World.{symbol_of, byte_at, bytes_from, symbol_address, symbol_size, image_bytes}
 use Rattle.files.specs.WorldFile.{least_name, symbols_ok, region_at, regions_in}
 use Rattle.memory.specs.Overlay.{find, store}
@@ -43,7 +43,7 @@ unfolding operands_of arithmetic division bitwise truth order compared shift bin
 value_open = tt
 
 unfoldable pub files_open : Unit {0}
-unfolding statement_ok statements_ok block_ok block_at blocks_in call_body_ok limits_of body start_of body_ok table_ok variable_ok fixed_ok head_ok reading read_from every printable before name_at names_in type_at types_in rule_of used_ok unused_ok trees_from trees trees_ok root_ok tree_from tree_at case_of listed blocks_from program_of world_ok call_ok node_refusal first_faulty nodes_fault texts_fault bodies_fault routine_fault files_fault constant_fault symbol_of byte_at bytes_from symbol_address symbol_size image_bytes least_name symbols_ok region_at regions_in
+unfolding statement_ok statements_ok block_ok block_at blocks_in call_body_ok limits_of body start_of body_ok table_ok variable_ok fixed_ok head_ok reading read_from every printable before name_at names_in type_at types_in rule_of used_ok unused_ok trees_from trees trees_ok root_ok tree_from tree_at case_of listed blocks_from program_of world_ok call_ok node_fault nodes_fault bodies_fault routine_fault files_fault constant_fault symbol_of byte_at bytes_from symbol_address symbol_size image_bytes least_name symbols_ok region_at regions_in
 files_open = tt
 
 unfoldable pub memory_open : Unit {0}

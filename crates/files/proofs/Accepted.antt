@@ -19,11 +19,11 @@ use Rattle.files.specs.Nodes.{kind_of, root_ok, trees_ok}
 use Rattle.files.specs.Blocks.{address_ok, statement_ok, statements_ok, block_ok, blocks_in}
 use Rattle.files.specs.WorldFile.{symbols_ok, regions_in}
 use Rattle.files.specs.Call.{call_body_ok}
-use Rattle.files.specs.Refusal.{Fault, fault, names_of, types_of, world_ok, call_ok, first, or_else, nodes_fault, texts_fault, bodies_fault, routine_fault, routine_refusal, files_fault, refusal, constant_fault, constant_refusal}
+use Rattle.files.specs.Refusal.{Fault, fault, names_of, types_of, world_ok, call_ok, no_fault, unless, or_else, nodes_fault, bodies_fault, routine_fault, routine_refusal, files_fault, refusal, constant_fault, constant_refusal}
 use Rattle.files.specs.Program.{tree, node_of}
 use Rattle.files.specs.Spells.{node_at, Fine, Accepted}
 use Rattle.std.proofs.lemmas.Bool.{and_parts}
-use Rattle.files.proofs.BoolLaws.{AllTrue, each_true}
+use Rattle.files.proofs.BoolLaws.{each_true}
 use Rattle.files.proofs.FaultLaws.{the_old_five}
 use Rattle.files.proofs.RefusalLaws.{or_next}
 use Rattle.files.proofs.ItemLaws.{every_at}
@@ -31,11 +31,6 @@ use Rattle.files.proofs.TableLaws.{has_body}
 use Rattle.files.proofs.Forest.{stands}
 
 -- ---- from a number 0 to what was checked
-
-first_none : (n : ℕ) (ts : List Bool) → 1 ≤ n → first n ts ≡ 0 → AllTrue ts
-first_none n [] l h = tt
-first_none n (true ∷ ts) l h = (refl, first_none (n + 1) ts (omega arith) h)
-first_none n (false ∷ ts) l h = absurd (omega arith)
 
 or_none : (f g : Fault) → (or_else f g).number ≡ 0 → (f.number ≡ 0) × (g.number ≡ 0)
 or_none f g h = go f.number refl h
@@ -52,26 +47,30 @@ pub record Bodies (names types head nodes statements blocks : List ℕ) : Type 0
   pub stated : statements_ok nodes statements ≡ true
   pub blocked : leb 1 (blocks_in nodes (length statements / 13) blocks) ≡ true
 
+-- a test that holds
+held : (ok : Bool) (f : Fault) → 1 ≤ f.number → (unless ok f).number ≡ 0 → ok ≡ true
+held true f l h = refl
+held false f l h = absurd (omega (arith, l, h))
+
 bodies : (names types head nodes statements blocks : List ℕ) → (bodies_fault names types head nodes statements blocks).number ≡ 0 → Bodies names types head nodes statements blocks
-unfolding bodies_fault texts_fault
+unfolding bodies_fault
 bodies names types head nodes statements blocks h =
     let s = statements_ok nodes statements in
     let b = leb 1 (blocks_in nodes (length statements / 13) blocks) in
-    let texts = leb 1 (names_in names) ∷ leb 1 (types_in types) ∷ [] in
-    let heads = head_ok head (names_of names) (types_of types) ∷ [] in
-    let after = trees_ok nodes ∷ (s && b) ∷ [] in
-    let n = nodes_fault nodes (names_of names) (types_of types) in
-    let o = or_none (fault (first 2 texts)) (or_else (fault (first 4 heads)) (or_else n (fault (first 6 after)))) h in
-    let p = or_none (fault (first 4 heads)) (or_else n (fault (first 6 after))) o.1 in
-    let q = or_none n (fault (first 6 after)) p.1 in
-    let t = first_none 2 texts (omega arith) o.0 in
-    let c = first_none 6 after (omega arith) q.1 in
-    let l = and_parts s b c.1.0 in
+    let a = or_none (unless (leb 1 (names_in names)) (fault 2)) _ h in
+    let c = or_none (unless (leb 1 (types_in types)) (fault 3)) _ a.1 in
+    let d = or_none (unless (head_ok head (names_of names) (types_of types)) (fault 4)) _ c.1 in
+    let n = or_none (nodes_fault nodes (names_of names) (types_of types)) _ d.1 in
+    let t = or_none (unless (trees_ok nodes) (fault 6)) _ n.1 in
+    let l = and_parts s b (held _ (fault 7) (omega arith) (or_none (unless (s && b) (fault 7)) no_fault t.1).0) in
     record {
-      named = t.0;
-      typed = t.1.0;
-      headed = (first_none 4 heads (omega arith) p.0).0;
-      spelled = record { fields = sym (the_old_five nodes (names_of names) (types_of types)) ∙ ap (λ (k : ℕ). eqb k 0) q.0; trees = c.0 };
+      named = held _ (fault 2) (omega arith) a.0;
+      typed = held _ (fault 3) (omega arith) c.0;
+      headed = held _ (fault 4) (omega arith) d.0;
+      spelled = record {
+        fields = sym (the_old_five nodes (names_of names) (types_of types)) ∙ ap (λ (k : ℕ). eqb k 0) n.0;
+        trees = held _ (fault 6) (omega arith) t.0;
+      };
       stated = l.0;
       blocked = l.1;
     }
@@ -132,9 +131,9 @@ pub record Run (r w c : List ℕ) : Type 0 where
 pub run : (r w c : List ℕ) → refusal r w c ≡ 0 → Run r w c
 unfolding files_fault
 run r w c h =
-    let o = or_none (routine_fault r) (fault (first 8 (world_ok w ∷ call_ok c ∷ []))) h in
-    let t = first_none 8 (world_ok w ∷ call_ok c ∷ []) (omega arith) o.1 in
-    record { routine = o.0; world = t.0; call = t.1.0 }
+    let o = or_none (routine_fault r) _ h in
+    let t = or_none (unless (world_ok w) (fault 8)) _ o.1 in
+    record { routine = o.0; world = held _ (fault 8) (omega arith) t.0; call = held _ (fault 9) (omega arith) (or_none (unless (call_ok c) (fault 9)) no_fault t.1).0 }
 
 pub unrefused : (r w c : List ℕ) → routine_refusal r ≡ 0 → world_ok w ≡ true → call_ok c ≡ true → refusal r w c ≡ 0
 unfolding files_fault
@@ -148,8 +147,8 @@ pub record Constant (r : List ℕ) (n : ℕ) : Type 0 where
 pub constant : (r : List ℕ) (n : ℕ) → constant_refusal r n ≡ 0 → Constant r n
 unfolding constant_fault
 constant r n h =
-    let o = or_none (routine_fault r) (fault (first 9 (root_ok (body r 3) n ∷ []))) h in
-    record { routine = o.0; root = (first_none 9 (root_ok (body r 3) n ∷ []) (omega arith) o.1).0 }
+    let o = or_none (routine_fault r) _ h in
+    record { routine = o.0; root = held _ (fault 9) (omega arith) (or_none (unless (root_ok (body r 3) n) (fault 9)) no_fault o.1).0 }
 
 -- ---- bodies in their files
 

@@ -1,19 +1,21 @@
 -- What is wrong with a node: the three numbers of document 02 together are document 01's 5, of a node and of a node body. Assumes nothing.
 use mathlib.Core.Path.{◌≡◌, refl, sym, ap, ◌∙◌}
-use mathlib.Core.Bool.{Bool, true, false, not, ◌&&◌, ◌||◌, cond}
+use mathlib.Core.Bool.{Bool, true, false, not, ◌&&◌, ◌||◌}
 use Rattle.std.proofs.Math.Bool.{and-false, and-true, and_assoc}
-use mathlib.Core.List.{List, [], ◌∷◌}
-use Prim.Native.Nat.{ℕ, zero, suc, ◌+◌, ◌*◌, ◌/◌, ◌<◌, ◌≤◌}
+use mathlib.Core.List.{List, [], ◌∷◌, map}
+use Prim.Native.Nat.{ℕ, zero, suc, ◌+◌, ◌*◌, ◌/◌, ◌≤◌}
 use native.Mathlib.Omega.{arith}
 use lib.Dec.{eqb, leb, ltb}
 use lib.ListN.{length}
 use borrow.Author.Tests.{le-leb, lt-leb, le-ltb, ltb-true, eqb-true, ne_eqb, not-true, not-false}
 use Rattle.std.specs.Prelude.{Option, None, Some}
+use Rattle.std.specs.List.{find, range_with_len}
 use Rattle.std.proofs.lemmas.Bool.{and_parts}
 use Rattle.layout.proofs.NumberLaws.{number_at_lt}
 use Rattle.files.specs.Items.{every}
 use Rattle.files.specs.Nodes.{kind_of, flag_of, ref_of, width_of, value_of, rule_of, ref_below, field_ok, fields_ok, kind_known, if_used, zero_if_unused, used_ok, unused_ok, Rule}
-use Rattle.files.specs.Refusal.{first, node_refusal, first_faulty, nodes_fault}
+use Rattle.files.specs.Refusal.{Fault, of_node, no_fault, unless, or_else, earliest, node_fault, nodes_fault}
+use Rattle.files.proofs.RefusalLaws.{or_next, or_some}
 use Rattle.files.proofs.ItemLaws.{every_fails, every_at, every_each, found, none_found}
 
 -- ---- a field
@@ -100,51 +102,79 @@ module _ (b : List ℕ) (names types n : ℕ) where
           (parted row.ref r (ref_of b n) (λ z. rw z (below_one (ref_of b n))))
           (width_parted fine))
 
--- ---- what is found of it
-
-tested : (k u z : Bool) → ltb 0 (cond k (first 30 (u ∷ z ∷ [])) 5) ≡ not (k && u && z)
-tested false u z = refl
-tested true false z = refl
-tested true true false = refl
-tested true true true = refl
+-- ---- what is wrong with it
 
 module _ (b : List ℕ) (names types n : ℕ) where
-  pub refused_unless : ltb 0 (node_refusal b names types n) ≡ not (field_ok b names types n)
-  unfolding node_refusal
-  refused_unless = tested (kind_known b n) (used_ok b names types n) (unused_ok b n) ∙ ap not (sym (dealt b names types n))
-
-  pub of_no_kind : kind_known b n ≡ false → 5 ≡ node_refusal b names types n
-  unfolding node_refusal
+  pub of_no_kind : kind_known b n ≡ false → of_node 5 n ≡ node_fault b names types n
+  unfolding node_fault
   of_no_kind k = rw k
 
-  pub barred : kind_known b n ≡ true → used_ok b names types n ≡ false → 30 ≡ node_refusal b names types n
-  unfolding node_refusal
+  pub barred : kind_known b n ≡ true → used_ok b names types n ≡ false → of_node 30 n ≡ node_fault b names types n
+  unfolding node_fault
   barred k u = rw (k, u)
 
-  pub unused : kind_known b n ≡ true → used_ok b names types n ≡ true → field_ok b names types n ≡ false → 31 ≡ node_refusal b names types n
-  unfolding node_refusal
-  unused k u f = let z : unused_ok b n ≡ false = rw (k, u) at (sym (dealt b names types n) ∙ f) in rw (k, u, z)
+  unused_zero : kind_known b n ≡ true → used_ok b names types n ≡ true → {t : Bool} → field_ok b names types n ≡ t → unused_ok b n ≡ t
+  unused_zero k u f = rw (k, u) at (sym (dealt b names types n) ∙ f)
+
+  pub unused : kind_known b n ≡ true → used_ok b names types n ≡ true → field_ok b names types n ≡ false → of_node 31 n ≡ node_fault b names types n
+  unfolding node_fault
+  unused k u f = let z : unused_ok b n ≡ false = unused_zero k u f in rw (k, u, z)
+
+  -- nothing exactly if it is as document 01 has it
+  told : (k u z : Bool) → eqb (earliest (unless k (of_node 5 n) ∷ unless u (of_node 30 n) ∷ unless z (of_node 31 n) ∷ [])).number 0 ≡ (k && u && z)
+  told false u z = refl
+  told true false z = refl
+  told true true false = refl
+  told true true true = refl
+
+  pub refused_unless : eqb (node_fault b names types n).number 0 ≡ field_ok b names types n
+  unfolding node_fault
+  refused_unless = told (kind_known b n) (used_ok b names types n) (unused_ok b n) ∙ sym (dealt b names types n)
 
 -- ---- a node body
 
 module _ (b : List ℕ) (names types : ℕ) where
-  -- a node that is found is refused
-  pub faulty : (n : ℕ) → Some n ≡ first_faulty b names types → (n * 20 + 20 ≤ length b) × (field_ok b names types n ≡ false)
-  unfolding first_faulty
-  faulty n e = let f = found _ (length b / 20) n (sym e) in (omega (arith, f.0), not-true _ (sym (refused_unless b names types n) ∙ f.1))
+  abbrev pub faulty : ℕ → Bool
+  faulty n = not (field_ok b names types n)
 
-  none_faulty : first_faulty b names types ≡ None → every (length b / 20) (field_ok b names types) ≡ true
-  unfolding first_faulty
-  none_faulty e = every_each (field_ok b names types) (length b / 20) (λ n h. not-false _ (sym (refused_unless b names types n) ∙ none_found _ (length b / 20) e n h))
+  -- the first faulty node among some tells what is wrong with them
+  first_fault : (xs : List ℕ) → elim (find faulty xs) as (λ x. Fault) [ None ↦ no_fault | Some n ↦ node_fault b names types n ] ≡ earliest (map (node_fault b names types) xs)
+  first_fault [] = refl
+  first_fault (n ∷ xs) = go (field_ok b names types n) refl (first_fault xs)
+    where
+      go : (t : Bool) → field_ok b names types n ≡ t
+          → elim (find faulty xs) as (λ x. Fault) [ None ↦ no_fault | Some k ↦ node_fault b names types k ] ≡ earliest (map (node_fault b names types) xs)
+          → elim (find faulty (n ∷ xs)) as (λ x. Fault) [ None ↦ no_fault | Some k ↦ node_fault b names types k ] ≡ or_else (node_fault b names types n) (earliest (map (node_fault b names types) xs))
+      go true e more = rw e (more ∙ sym (or_next (node_fault b names types n) _ (eqb-true _ _ (refused_unless b names types n ∙ e))))
+      go false e more = rw e (or_some (node_fault b names types n) _ (refused_unless b names types n ∙ e))
+
+  abbrev pub search_of : Option ℕ
+  search_of = find faulty (range_with_len 0 (length b / 20))
+
+  pub none_wrong : None ≡ search_of → no_fault ≡ nodes_fault b names types
+  unfolding nodes_fault
+  none_wrong e = rw (sym e) at (first_fault (range_with_len 0 (length b / 20)))
+
+  module _ (n : ℕ) (e : Some n ≡ search_of) where
+    pub first_wrong : node_fault b names types n ≡ nodes_fault b names types
+    unfolding nodes_fault
+    first_wrong = rw (sym e) at (first_fault (range_with_len 0 (length b / 20)))
+
+    pub wrong_inside : n * 20 + 20 ≤ length b
+    wrong_inside = let f = found faulty (length b / 20) n (sym e) in omega (arith, f.0)
+
+    pub wrong_refused : field_ok b names types n ≡ false
+    wrong_refused = not-true _ (found faulty (length b / 20) n (sym e)).1
 
   -- what document 02 accepts is what document 01 accepts: "5 a node's kind, or a field its kind bars or must leave 0"
   pub the_old_five : eqb (nodes_fault b names types).number 0 ≡ fields_ok b names types
-  unfolding nodes_fault fields_ok
-  the_old_five = go (first_faulty b names types) refl
+  unfolding fields_ok
+  the_old_five = go search_of refl
     where
-      go : (o : Option ℕ) → first_faulty b names types ≡ o → eqb (nodes_fault b names types).number 0 ≡ every (length b / 20) (field_ok b names types)
-      go None e = rw (nodes_fault, e, none_faulty e)
+      go : (o : Option ℕ) → o ≡ search_of → eqb (nodes_fault b names types).number 0 ≡ every (length b / 20) (field_ok b names types)
+      go None e =
+          ap (λ (f : Fault). eqb f.number 0) (sym (none_wrong e))
+          ∙ sym (every_each (field_ok b names types) (length b / 20) (λ n h. not-false _ (none_found faulty (length b / 20) (sym e) n h)))
       go (Some n) e =
-          let f = faulty n (sym e) in
-          let r : 0 < node_refusal b names types n = ltb-true 0 _ (refused_unless b names types n ∙ ap not f.1) in
-          rw (nodes_fault, e, ne_eqb (node_refusal b names types n) 0 (λ z. omega (arith, r, z)), every_fails (field_ok b names types) (length b / 20) n (omega (arith, f.0)) f.1)
+          ap (λ (f : Fault). eqb f.number 0) (sym (first_wrong n e)) ∙ refused_unless b names types n ∙ wrong_refused n e
+          ∙ sym (every_fails (field_ok b names types) (length b / 20) n (omega (arith, wrong_inside n e)) (wrong_refused n e))

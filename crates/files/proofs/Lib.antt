@@ -9,8 +9,8 @@ pub mod KindLaws
 pub mod TreeLaws
 pub mod BlockLaws
 pub mod WorldLaws
-pub mod FaultLaws
 pub mod RefusalLaws
+pub mod FaultLaws
 pub mod Spelled
 pub mod Forest
 pub mod Accepted

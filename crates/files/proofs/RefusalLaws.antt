@@ -2,15 +2,17 @@
 use mathlib.Core.Path.{◌≡◌, refl, sym, ap, ◌∙◌}
 use mathlib.Core.Bool.{Bool, true, false}
 use mathlib.Core.List.{List, [], ◌∷◌}
-use Prim.Native.Nat.{ℕ, suc}
-use lib.Dec.{leb}
+use Prim.Native.Nat.{ℕ, zero, suc}
+use native.Mathlib.Omega.{arith}
+use borrow.Author.Tests.{eqb-false}
+use lib.Dec.{leb, eqb}
 use Rattle.std.specs.Prelude.{Result, Ok, Err, MatchResult, Option, None, Some}
 use Rattle.std.specs.Option.{ok_or}
 use Rattle.std.specs.Result.{IsErrAnd}
 use Rattle.std.proofs.lemmas.Result.{err_from_is_err_and}
 use Rattle.files.specs.Bytes.{one_less}
 use Rattle.files.specs.Names.{names_in, types_in, counted}
-use Rattle.files.specs.Refusal.{Fault, fault, fault_of, refused, first, or_else, names_of, types_of}
+use Rattle.files.specs.Refusal.{Fault, fault, no_fault, fault_of, refused, unless, or_else, earliest, names_of, types_of}
 use Rattle.files.specs.declared.names.TheConstants.Texts.{NAMES, TYPES}
 use Rattle.files.proofs.NameLaws.{some_names, some_types}
 use Rattle.files.specs.declared.refusal.Refusal.{Refusal}
@@ -22,11 +24,6 @@ exits r e h = let p = err_from_is_err_and r h in rw p.1 (ap fault_of p.2)
 
 pub exits_with : {T : Type 0} (P : T → Type 0) (f : Fault) (r : Result T Refusal) (e : Refusal) → IsErrAnd r (λ x. x ≡ e) → f ≡ fault_of e → MatchResult r P (λ x. f ≡ fault_of x)
 exits_with P f r e h i = let p = err_from_is_err_and r h in rw (p.1, p.2) i
-
--- at a last check
-pub checked : (r : Result (Unit {0}) Refusal) (ok : Bool) (e : Refusal) (n : ℕ) → fault_of e ≡ fault n → MatchResult r (λ _. ok ≡ true) (λ x. (ok ≡ false) × (x ≡ e)) → refused r ≡ fault (first n (ok ∷ []))
-checked (Ok u) ok e n f h = rw h
-checked (Err x) ok e n f h = rw (h.0, h.1) f
 
 -- a number that there is, or a refusal
 pub counted_err : (o : Option ℕ) (e x : Refusal) → Err x ≡ ok_or o e → (o ≡ None) × (x ≡ e)
@@ -51,6 +48,13 @@ or_next f g h = rw h
 or_first : (f g : Fault) (n : ℕ) → f.number ≡ suc n → f ≡ or_else f g
 or_first f g n h = rw h
 
+pub or_some : (f g : Fault) → eqb f.number 0 ≡ false → f ≡ or_else f g
+or_some f g h = go f.number refl
+  where
+    go : (n : ℕ) → f.number ≡ n → f ≡ or_else f g
+    go zero e = absurd (eqb-false f.number 0 h e)
+    go (suc n) e = or_first f g n e
+
 -- the number of a refusal is no 0
 pub is_refusal : (e : Refusal) → (n : ℕ) × ((fault_of e).number ≡ suc n)
 is_refusal RoutineTable = (0, refl)
@@ -71,3 +75,14 @@ is_refusal Record = (21, refl)
 -- so nothing comes after it
 pub or_refusal : (e : Refusal) (f : Fault) → fault_of e ≡ or_else (fault_of e) f
 or_refusal e f = let n = is_refusal e in or_first (fault_of e) f n.0 n.1
+
+-- at a last check
+pub checked : (r : Result (Unit {0}) Refusal) (ok : Bool) (e : Refusal) → MatchResult r (λ _. ok ≡ true) (λ x. (ok ≡ false) × (x ≡ e)) → refused r ≡ earliest (unless ok (fault_of e) ∷ [])
+checked (Ok u) ok e h = rw h
+checked (Err x) ok e h = rw (h.0, h.1) (or_refusal e no_fault)
+
+-- what names and types are refused by comes before all else
+pub texts_first : (n t : Bool) (e : Refusal) (f : Fault) → earliest (unless n (fault 2) ∷ unless t (fault 3) ∷ []) ≡ fault_of e → fault_of e ≡ or_else (unless n (fault 2)) (or_else (unless t (fault 3)) f)
+texts_first false t e f h = sym h
+texts_first true false e f h = sym h
+texts_first true true e f h = let n = is_refusal e in absurd (omega (arith, ap (λ (g : Fault). g.number) h, n.1))

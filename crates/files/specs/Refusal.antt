@@ -1,7 +1,7 @@
 -- What refuses the three files, and what a routine and a node of `constant_value`: a number, and the node that it tells (document 01, "From the input";
 -- document 02, A1). Assumes nothing.
-use Rattle.std.specs.Prelude.{Bool, true, false, cond, ◌&&◌, List, [], ◌∷◌, ℕ, zero, suc, ◌+◌, ◌-◌, ◌/◌, length, leb, ltb, Option, None, Some, Result, Ok, Err}
-use Rattle.std.specs.List.{find, range_with_len}
+use Rattle.std.specs.Prelude.{Bool, cond, ◌&&◌, List, [], ◌∷◌, map, ℕ, zero, suc, ◌-◌, ◌/◌, length, leb, Result, Ok, Err}
+use Rattle.std.specs.List.{range_with_len}
 use Rattle.files.specs.FileTable.{table_ok, body}
 use Rattle.files.specs.Names.{names_in, types_in}
 use Rattle.files.specs.Head.{head_ok}
@@ -63,38 +63,43 @@ world_ok w = table_ok 3 w && leb 1 (names_in (body w 0)) && symbols_ok (body w 1
 unfoldable pub call_ok : List ℕ → Bool
 call_ok c = table_ok 1 c && call_body_ok (body c 0)
 
--- the number of the first that does not hold, counted from n; 0 if all hold
-abbrev pub first : ℕ → List Bool → ℕ
-first n [] = 0
-first n (false ∷ ts) = n
-first n (true ∷ ts) = first (n + 1) ts
+-- the fault of a test that fails
+abbrev pub unless : Bool → Fault → Fault
+unless ok f = cond ok no_fault f
 
 -- a fault, or where there is none what comes after it
 abbrev pub or_else : Fault → Fault → Fault
 or_else f g = elim f.number [ zero ↦ g | suc m ↦ f ]
 
--- "30 and 31 are tested after 5 on the same node": the number of what is wrong with a node, 0 where nothing is
-unfoldable pub node_refusal : List ℕ → ℕ → ℕ → ℕ → ℕ
-node_refusal b names types n = cond (kind_known b n) (first 30 (used_ok b names types n ∷ unused_ok b n ∷ [])) 5
+-- the first of them
+abbrev pub earliest : List Fault → Fault
+earliest [] = no_fault
+earliest (f ∷ fs) = or_else f (earliest fs)
 
--- "the lowest node comes first": it, where one is refused
-unfoldable pub first_faulty : List ℕ → ℕ → ℕ → Option ℕ
-first_faulty b names types = find (λ n. ltb 0 (node_refusal b names types n)) (range_with_len 0 (length b / 20))
+-- "30 and 31 are tested after 5 on the same node": what is wrong with node n
+unfoldable pub node_fault : List ℕ → ℕ → ℕ → ℕ → Fault
+node_fault b names types n =
+    earliest
+    (unless (kind_known b n) (of_node 5 n)
+    ∷ unless (used_ok b names types n) (of_node 30 n)
+    ∷ unless (unused_ok b n) (of_node 31 n)
+    ∷ [])
 
+-- "the lowest node comes first", of the whole ones
 unfoldable pub nodes_fault : List ℕ → ℕ → ℕ → Fault
-nodes_fault b names types = elim (first_faulty b names types) [ None ↦ no_fault | Some n ↦ of_node (node_refusal b names types n) n ]
+nodes_fault b names types = earliest (map (node_fault b names types) (range_with_len 0 (length b / 20)))
 
--- "2 names. 3 types."
-unfoldable pub texts_fault : List ℕ → List ℕ → Fault
-texts_fault names types = fault (first 2 (leb 1 (names_in names) ∷ leb 1 (types_in types) ∷ []))
-
--- after these "4 head", then what is wrong with a node, "then 6": "6 a node body .. 7 statements, blocks, or a root .."
+-- "2 names. 3 types. 4 head", then what is wrong with a node, "then 6": "6 a node body .. 7 statements, blocks, or a root .."
 unfoldable pub bodies_fault : List ℕ → List ℕ → List ℕ → List ℕ → List ℕ → List ℕ → Fault
 bodies_fault names types head nodes statements blocks =
-    or_else (texts_fault names types)
-    (or_else (fault (first 4 (head_ok head (names_of names) (types_of types) ∷ [])))
-    (or_else (nodes_fault nodes (names_of names) (types_of types))
-    (fault (first 6 (trees_ok nodes ∷ (statements_ok nodes statements && leb 1 (blocks_in nodes (length statements / 13) blocks)) ∷ [])))))
+    earliest
+    (unless (leb 1 (names_in names)) (fault 2)
+    ∷ unless (leb 1 (types_in types)) (fault 3)
+    ∷ unless (head_ok head (names_of names) (types_of types)) (fault 4)
+    ∷ nodes_fault nodes (names_of names) (types_of types)
+    ∷ unless (trees_ok nodes) (fault 6)
+    ∷ unless (statements_ok nodes statements && leb 1 (blocks_in nodes (length statements / 13) blocks)) (fault 7)
+    ∷ [])
 
 -- "1 routine table", then what its six bodies are refused by
 unfoldable pub routine_fault : List ℕ → Fault
@@ -102,11 +107,11 @@ routine_fault r = cond (table_ok 6 r) (bodies_fault (body r 0) (body r 1) (body 
 
 -- what refuses the routine, then 8 for the world and 9 for the call
 unfoldable pub files_fault : List ℕ → List ℕ → List ℕ → Fault
-files_fault r w c = or_else (routine_fault r) (fault (first 8 (world_ok w ∷ call_ok c ∷ [])))
+files_fault r w c = earliest (routine_fault r ∷ unless (world_ok w) (fault 8) ∷ unless (call_ok c) (fault 9) ∷ [])
 
 -- what refuses the routine, then 9 for "a `constant_value` node as in 7"
 unfoldable pub constant_fault : List ℕ → ℕ → Fault
-constant_fault r n = or_else (routine_fault r) (fault (first 9 (root_ok (body r 3) n ∷ [])))
+constant_fault r n = earliest (routine_fault r ∷ unless (root_ok (body r 3) n) (fault 9) ∷ [])
 
 -- their numbers
 abbrev pub routine_refusal : List ℕ → ℕ

@@ -13,8 +13,9 @@ pub mod table;
 pub mod trees;
 pub mod world;
 
-ghost use Rattle.std.specs.Prelude.{◌≡◌, ◌<◌, length, MatchResult};
-ghost use Rattle.files.specs.Refusal.{no_fault, fault_of, refused, names_of, types_of, texts_fault, bodies_fault, routine_fault, world_ok, call_ok, files_fault, constant_fault};
+ghost use Rattle.std.specs.Prelude.{◌≡◌, ◌<◌, true, [], ◌∷◌, leb, length, MatchResult};
+ghost use Rattle.files.specs.Names.{names_in, types_in};
+ghost use Rattle.files.specs.Refusal.{fault, fault_of, refused, names_of, types_of, unless, earliest, bodies_fault, routine_fault, world_ok, call_ok, files_fault, constant_fault};
 
 use checked::{Call, Routine, World};
 use kinds::Bounds;
@@ -31,7 +32,7 @@ const CALL: usize = 1;
 // How many names and types there are. (Not inlined: beside the node of another refusal the compiler would make theirs, which is none, at each byte of a text.)
 #[inline(never)]
 fn count_texts(names: &[u8], types: &[u8]) -> Result<Bounds, Refusal>
-    ensures { MatchResult result (λ b. (texts_fault names.now types.now ≡ no_fault) × (names_of names.now ≡ b.names) × (types_of types.now ≡ b.types)) (λ e. texts_fault names.now types.now ≡ fault_of e) }
+    ensures { MatchResult result (λ b. (leb 1 (names_in names.now) ≡ true) × (leb 1 (types_in types.now) ≡ true) × (names_of names.now ≡ b.names) × (types_of types.now ≡ b.types)) (λ e. earliest (unless (leb 1 (names_in names.now)) (fault 2) ∷ unless (leb 1 (types_in types.now)) (fault 3) ∷ []) ≡ fault_of e) }
 {
     Ok(Bounds {
         names: names::count(names, Texts::NAMES).ok_or(Refusal::Names)?,

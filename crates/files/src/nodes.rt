@@ -1,10 +1,11 @@
 // Nodes: the fields of one, and what its kind lets them be. (All nodes and the number of one, not the bytes of one: whoever walks a tree goes on by number
 // to its children and past its span. A struct of both, with the fact that the node is inside, was tried: it lies in the caller's frame, so that a walk
 // down a tree takes 61 instructions in place of 54 and 48 bytes more of stack a level, and the contracts above get longer.)
-ghost use Rattle.std.specs.Prelude.{◌≡◌, ◌==◌, ◌+◌, ◌*◌, ◌<◌, ◌≤◌, ◌/◌, false, length, ltb};
+ghost use Rattle.std.specs.Prelude.{◌≡◌, ◌==◌, ◌+◌, ◌*◌, ◌<◌, ◌≤◌, ◌/◌, false, not, length, ltb};
+ghost use Rattle.std.specs.List.{find, range_with_len};
 ghost use Rattle.files.specs.Nodes.{kind_of, flag_of, ref_of, width_of, span_of, value_of, ref_below, field_ok, used_ok, root_ok};
 ghost use Rattle.files.specs.Program.{kind_numbered, number_of};
-ghost use Rattle.files.specs.Refusal.{fault_of, of_node, refused, node_refusal, first_faulty, nodes_fault};
+ghost use Rattle.files.specs.Refusal.{fault_of, refused, node_fault, nodes_fault};
 ghost use Rattle.files.specs.Rules.{refers_number};
 
 use crate::kinds::{Bounds, Kind, Refers, Rule};
@@ -122,7 +123,7 @@ fn fault(b: &[u8], n: usize, bounds: Bounds) -> Refusal
     requires short { length b.now < 65536 }
     requires inside { n * 20 + 20 ≤ length b.now }
     requires refused { field_ok b.now bounds.names bounds.types n ≡ false }
-    ensures { fault_of result ≡ of_node (node_refusal b.now bounds.names bounds.types n) n }
+    ensures { fault_of result ≡ node_fault b.now bounds.names bounds.types n }
 {
     let node = n as u32;
     let Ok(kind) = Kind::try_from(kind_number(b, n)) else {
@@ -136,14 +137,13 @@ fn fault(b: &[u8], n: usize, bounds: Bounds) -> Refusal
 
 // The first whole node that is not as its kind lets it be.
 fn first_faulty(b: &[u8], bounds: Bounds) -> Option<usize>
-    ensures { result ≡ first_faulty b.now bounds.names bounds.types }
+    ensures { result ≡ find (λ n. not (field_ok b.now bounds.names bounds.types n)) (range_with_len 0 (length b.now / 20)) }
 {
     let count = b.len() / SIZE;
     (0..count).find(|n| !check_node(b, *n, bounds))
 }
 
 // What is wrong with that node, if there is one.
-#[tactic(auto, unfolding(crate::specs::Refusal::nodes_fault))]
 pub fn check(b: &[u8], bounds: Bounds) -> Result<(), Refusal>
     requires { length b.now < 65536 }
     ensures { refused result ≡ nodes_fault b.now bounds.names bounds.types }
