@@ -1,6 +1,6 @@
 // The kinds of nodes, and what a kind lets a node be.
 ghost use Rattle.std.specs.Prelude.{◌≡◌, ok_or, slice_get};
-ghost use Rattle.files.specs.Nodes.{rule, rule_of};
+ghost use Rattle.files.specs.Nodes.{rule_of};
 ghost use Rattle.files.specs.Program.{kinds, number_of};
 ghost use Rattle.files.specs.Rules.{row};
 

@@ -1,9 +1,10 @@
 -- The case of a Switch that has a value: the first that is found among them decides. Assumes nothing.
-use mathlib.Core.Path.{◌≡◌, refl, ap, ◌∙◌}
+use mathlib.Core.Path.{◌≡◌, refl, ap, sym, ◌∙◌}
 use mathlib.Core.Bool.{Bool, true, false, cond}
 use mathlib.Core.List.{List, map}
 use Rattle.std.specs.Prelude.{Option, None, Some}
 use Rattle.std.specs.Option.{option_map}
+use Rattle.std.proofs.lemmas.Iterator.Adapters.{option_map_id}
 use Rattle.std.specs.List.{find, range_with_len}
 use Prim.Native.Nat.{ℕ, zero, suc, ◌+◌}
 use native.Mathlib.Numerals.{add-one}
@@ -33,8 +34,4 @@ module _ (b : List ℕ) (i value : ℕ) where
   -- the target of the one that a search of the first so many finds
   pub case_found : (count : ℕ) (r : Option Case) {q : Option ℕ} → option_map (λ (c : Case). c) r ≡ find has (map case_read (range_with_len 0 count)) → q ≡ option_map (λ (c : Case). c.target) r
       → q ≡ case_of (listed (case_at b i) 0 count) value
-  case_found count r e is = is ∙ ap (option_map (λ (c : Case). c.target)) (same r e) ∙ by_found 0 count
-    where
-      same : (o : Option Case) {s : Option Case} → option_map (λ (c : Case). c) o ≡ s → o ≡ s
-      same None h = h
-      same (Some c) h = h
+  case_found count r e is = is ∙ ap (option_map (λ (c : Case). c.target)) (sym (option_map_id r) ∙ e) ∙ by_found 0 count
