@@ -42,7 +42,7 @@ extern "C" {
 /* The shortest record: a run without steps, variables, written bytes and questions. */
 #define EMULATE_RECORD_LEAST 99
 
-/* Bytes of stack that a call needs at most, on the calling thread: 25,711 were measured with the
+/* Bytes of stack that a call needs at most, on the calling thread: 25,695 were measured with the
  * deepest and the widest routines (stack.c). */
 #define EMULATE_STACK_NEEDED 32768
 
