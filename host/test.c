@@ -263,6 +263,43 @@ static void test_fold(void)
     no_constant("nothing at all", 0, 0, 1);
 }
 
+/* `int32_t f(bool flag) { return flag; }`, and two casts that no statement names. */
+static void make_bools(uint64_t flag)
+{
+    begin(&parts, 0, 0, 2, 1);
+    put_text(&parts.names, "f");
+    put_text(&parts.names, "flag");
+    put_text(&parts.types, "bool");
+    put_text(&parts.types, "unsigned bool");
+    put_text(&parts.types, "int32_t");
+    variable(&parts, 1, 0);
+    over(&parts, RETURN, 2);
+    var(&parts, 1);
+    node(&parts, CAST, 0, 0, 0, 2, 0); /* 2: (bool)256 */
+    constant(&parts, 2, 256);
+    node(&parts, CAST, 0, 1, 0, 2, 0); /* 4: (unsigned bool)256 */
+    constant(&parts, 2, 256);
+    statement(&parts, 0, 0, 0);
+    block(&parts, 1, ENDS, 0, 0, 0);
+    finish_files(10, &flag, 1);
+}
+
+/* A bool keeps 1 of 256; its low 8 bits are 0. */
+static void test_bools(void)
+{
+    const struct emulate_value one = { true, false, 8, 1 };
+    const struct emulate_value low = { true, false, 8, 0 };
+    struct emulate_bytes made;
+    struct emulate_variable flag;
+    make_bools(256);
+    is_constant("(bool)256", 2, 65536, one);
+    is_constant("(unsigned bool)256", 4, 65536, low);
+    made = ran("a bool parameter of 256", 178, 178, 65536);
+    CHECK(emulate_read_variable(emulate_body(made, EMULATE_BODY_VARIABLES), &flag) == 16
+          && flag.value.known && !flag.value.is_signed && flag.value.bits == 8
+          && flag.value.number == 1);
+}
+
 /* One intrinsic with 512 stores of 8 bytes each, and one of one byte at an address. */
 static void make_stores(uint64_t address)
 {
@@ -486,6 +523,7 @@ int main(int count, char **words)
     test_faults();
     test_long_files();
     test_fold();
+    test_bools();
     test_stores();
     test_nodes();
     test_cut_nodes();

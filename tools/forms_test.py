@@ -8,6 +8,7 @@ import sys
 import tempfile
 import unittest
 from collections import Counter
+from itertools import permutations
 from pathlib import Path
 
 sys.dont_write_bytecode = True
@@ -251,7 +252,7 @@ class Normal(Case):
 
     def test_examples(self):
         found = sorted(ROOT.glob("examples/*/form.txt"))
-        self.assertGreaterEqual(len(found), 4)
+        self.assertGreaterEqual(len(found), 5)
         for form in found:
             with self.subTest(form.parent.name):
                 self.check_text(form.read_text())
@@ -285,6 +286,32 @@ call(1, 0xffffffffffffffff, 16) steps 10000 depth 0;
         self.assertEqual(shown.partition("}")[0],
                          "uint8_t *`a()`() at 0x1\n{\n    names y, z;\n    types int, int, uint8_t *, char;\n    #1 x;\n    int x;\n")
         self.assertEqual(body(forms.make(text)[0], 2), struct.pack("<HQHBHHHH", 0, 1, 2, 0, 1, 1, 1, 0))
+
+
+# what names a bool, in every order of its words, and a text in normal form with such a type wherever one can stand
+BOOLS = [" ".join(words) for word in ("_Bool", "bool") for beside in ((), ("const",), ("volatile",), ("const", "volatile"), ("const", "const"))
+         for words in sorted(set(permutations(beside + (word,))))]
+BOOL_TEXT = """KIND f(KIND x) at 0x10
+{
+    KIND y;
+    KIND *p;
+
+block_0:
+    y = (KIND)x;  // statement 0, node 0
+    p = (KIND *)(KIND)y;  // statement 1, node 4
+    *(KIND *)p = { KIND at 0 = *(KIND *)p };  // statement 2, node 9
+    return y;  // statement 3, node 18
+""" + TAIL
+
+
+class Bools(Case):
+    def test_types_stand_without_quotes(self):
+        self.assertEqual(len(BOOLS), 2 * (1 + 2 + 2 + 6 + 3))
+        for kind in BOOLS:
+            with self.subTest(kind):
+                text = BOOL_TEXT.replace("KIND", kind)
+                self.assertEqual(body(forms.make(text)[0], 1), listed([kind, kind + " *"]))
+                self.assertEqual(self.check_text(text), text)
 
 
 # ---- texts that make no files

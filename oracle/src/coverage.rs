@@ -4,14 +4,16 @@
 use std::collections::BTreeMap;
 use std::fmt;
 
+use crate::boolean::{speaks_of_bool, PLACES};
 use crate::comparison::ConstantAnswer;
-use crate::files::{bodies, nodes, Routine, NODE_BYTES};
+use crate::files::{bodies, nodes, Call, Routine, World, NODE_BYTES};
 use crate::judge::{Files, Verdict};
 use crate::kinds;
 use crate::notes::{self, Note};
-use crate::original::Ran;
+use crate::original::{run_grown, Ran};
 use crate::refusal::{faulty_nodes, unused_fields_are_zero};
 use crate::stops::{self, Stopped};
+use crate::trees::Growth;
 use crate::values::OPERATORS;
 use crate::world::Question;
 
@@ -57,6 +59,9 @@ const CONSTANTS: [&str; 14] = [
     "21 refused",
 ];
 
+/// By place: conversions without which the run would be another one.
+const TO_BOOL: &str = "conversion to bool of another number than 0 and 1";
+
 const TERMINATORS: [&str; 4] = ["Return", "Goto", "Branch", "Switch"];
 
 impl Default for Coverage {
@@ -82,6 +87,14 @@ impl Coverage {
         let operators = OPERATORS.map(|op| format!("{op:?}"));
         coverage.rows("operator in an accepted routine", operators);
         coverage.rows("terminator in an accepted routine", TERMINATORS);
+        coverage.rows(TO_BOOL, PLACES.map(|place| format!("{place:?}")));
+        coverage
+    }
+
+    /// The table of cases that the original alone can judge.
+    pub fn without_bool() -> Self {
+        let mut coverage = Self::new();
+        coverage.rows.retain(|(subject, _), _| *subject != TO_BOOL);
         coverage
     }
 
@@ -100,6 +113,9 @@ impl Coverage {
         if let Some(ran) = &verdict.ran {
             self.count_run(ran);
             self.count_routine(&Routine::read(&files.routine));
+            if speaks_of_bool(&files.routine) {
+                self.count_conversions(files);
+            }
         }
     }
 
@@ -156,6 +172,20 @@ impl Coverage {
         }
         if !body.len().is_multiple_of(NODE_BYTES) {
             self.add(OF_A_NODE, PART_BEHIND);
+        }
+    }
+
+    /// Count the places whose conversions change the run. One of 0, of 1 or of
+    /// an unknown number changes nothing.
+    fn count_conversions(&mut self, files: &Files) {
+        let routine = Routine::read(&files.routine);
+        let (world, call) = (World::read(&files.world), Call::read(&files.call));
+        let run = |growth: Growth| run_grown(&routine, &world, &call, growth);
+        let plain = run(Growth::Plain);
+        for place in PLACES {
+            if run(Growth::Without(place)) != plain {
+                self.add(TO_BOOL, &format!("{place:?}"));
+            }
         }
     }
 

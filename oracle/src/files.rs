@@ -180,10 +180,19 @@ fn each<'a, T>(body: &'a [u8], item: impl Fn(&mut Fields<'a>) -> Option<T>) -> V
 }
 
 fn strings(body: &[u8]) -> Vec<String> {
-    each(body, |fields| {
-        let length = usize::from(fields.u8()?);
-        String::from_utf8(fields.bytes(length)?.to_vec()).ok()
-    })
+    each(body, string)
+}
+
+fn string(fields: &mut Fields) -> Option<String> {
+    let length = usize::from(fields.u8()?);
+    String::from_utf8(fields.bytes(length)?.to_vec()).ok()
+}
+
+/// The types of any routine file, as far as they can be read.
+pub fn types(file: &[u8]) -> Vec<String> {
+    let body = bodies(file, 6).map_or(&[][..], |bodies| bodies[1]);
+    let mut fields = Fields::new(body);
+    std::iter::from_fn(|| string(&mut fields)).collect()
 }
 
 fn head(body: &[u8]) -> Option<Head> {

@@ -20,6 +20,7 @@ pub mod kinds;
 pub mod refusal;
 
 // Runs of the original, and their records.
+pub mod boolean;
 pub mod judge;
 pub mod marks;
 pub mod notes;

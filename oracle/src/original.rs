@@ -36,11 +36,7 @@ pub fn run(routine: &Routine, world: &World, call: &Call) -> Ran {
 pub fn run_grown(routine: &Routine, world: &World, call: &Call, growth: Growth) -> Ran {
     let stages = trees::stages(routine, growth);
     let labels = trees::labels(routine, &stages, growth);
-    let arguments: Vec<Val> = call
-        .arguments
-        .iter()
-        .map(|argument| Val::known(*argument, 64, true))
-        .collect();
+    let arguments = trees::arguments(routine, call, growth);
     let limits = Limits {
         steps: call.steps as usize,
         depth: call.depth as usize,

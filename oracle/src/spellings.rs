@@ -60,4 +60,12 @@ pub const SPELLINGS: &[&str] = &[
     "* const", "*const", "const * const", "char *const *", "char * const *",
     "unsigned *const *", "unsigned * const*", "int *restrict", "int * unsigned",
     "unsigned * unsigned", "* unsigned", "*unsigned", "char *x", "char * x",
+    // Bool with its qualifiers in every position, and with words that keep it from being one.
+    "bool const", "volatile bool", "_Bool volatile", "const volatile bool", "const bool volatile",
+    "bool volatile const", "const bool const", "volatile volatile _Bool", "_Bool const const",
+    "const volatile bool const", " volatile  _Bool  const ", "  bool", "const bool *",
+    "bool const*", "volatile _Bool const * ", "bool **", "_Bool * *", "bool unsigned",
+    "signed const _Bool", "unsigned volatile bool const", "bool unsigned *", "bool bool",
+    "bool _Bool", "bool int", "const*bool", "*bool", "bool *const", "bool* *const", "bool;",
+    "struct bool", "enum bool *", "restrict bool", "boolean_t", "bool_t", "bool8", "my_bool *",
 ];

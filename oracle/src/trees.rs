@@ -1,25 +1,44 @@
 //! The original's structures, grown from a routine file.
 
+use std::collections::HashMap;
+
 use crate::ast::{AstNode, RegisterRef, StructField};
+use crate::boolean::{self, Place};
 use crate::emit::{Label, Labels};
-use crate::files::{Block, Routine};
+use crate::emulate::Val;
+use crate::files::{Block, Call, Routine};
 use crate::kinds::*;
 use crate::lift::{Function, Stages, Variable};
 use crate::marks;
 use crate::structure::{Node, Statement, Terminator};
 use crate::values::OPERATORS;
 
-/// Whether trees are grown as the file has them, or with `marks`.
+/// How trees are grown: as the file has them, or with `marks`.
 #[derive(Debug, Clone, Copy, PartialEq, Eq)]
 pub enum Growth {
     Plain,
     Marked,
+    /// Plain, but at this place nothing becomes a bool: what such a conversion
+    /// changes can so be seen.
+    Without(Place),
+}
+
+impl Growth {
+    /// Whether what is converted to this type becomes a bool.
+    fn makes_bool(self, place: Place, ty: &str) -> bool {
+        boolean::is_bool(ty) && self != Growth::Without(place)
+    }
 }
 
 /// The routine as the original takes it. Each statement and each terminator
 /// has a tree of its own, also where roots are shared.
 pub fn stages(routine: &Routine, growth: Growth) -> Stages {
-    let grower = Grower { routine, growth };
+    let head = &routine.head;
+    let grower = Grower {
+        routine,
+        growth,
+        declared: head.params.iter().chain(&head.locals).copied().collect(),
+    };
     let mut dealt = 0;
     let mut medium = Vec::new();
     for block in &routine.blocks {
@@ -41,7 +60,7 @@ pub fn labels(routine: &Routine, stages: &Stages, growth: Growth) -> Labels {
     for (node, block) in stages.medium.iter().zip(&routine.blocks) {
         for grown in &node.statements {
             let root = routine.statements[statement].root as usize;
-            if growth == Growth::Plain {
+            if growth != Growth::Marked {
                 label(&mut labels, &grown.node, root);
             }
             labels.put(&grown.node, Label::Statement(statement));
@@ -50,7 +69,7 @@ pub fn labels(routine: &Routine, stages: &Stages, growth: Growth) -> Labels {
         if let Terminator::Branch { cond: root, .. } | Terminator::Switch { index: root, .. } =
             &node.terminator
         {
-            if growth == Growth::Plain {
+            if growth != Growth::Marked {
                 label(&mut labels, root, block.root as usize);
             }
             labels.put(root, Label::Node(block.root as usize));
@@ -59,10 +78,34 @@ pub fn labels(routine: &Routine, stages: &Stages, growth: Growth) -> Labels {
     labels
 }
 
-/// The expression at a node, as the file has it.
+/// The expression at a node, as `constant_value` takes it: with nothing
+/// declared.
 pub fn expression(routine: &Routine, node: usize) -> AstNode {
-    let growth = Growth::Plain;
-    Grower { routine, growth }.tree(node)
+    let grower = Grower {
+        routine,
+        growth: Growth::Plain,
+        declared: HashMap::new(),
+    };
+    grower.tree(node)
+}
+
+/// The call's arguments, "of 64 bits signed as `run` makes them".
+pub fn arguments(routine: &Routine, call: &Call, growth: Growth) -> Vec<Val> {
+    let params = &routine.head.params;
+    let makes_bool = |index: usize| {
+        params.get(index).is_some_and(|&(_, ty)| {
+            growth.makes_bool(Place::Parameter, &routine.types[usize::from(ty)])
+        })
+    };
+    let argument = |(index, &number): (usize, &u64)| {
+        let number = if makes_bool(index) {
+            u64::from(number != 0)
+        } else {
+            number
+        };
+        Val::known(number, 64, true)
+    };
+    call.arguments.iter().enumerate().map(argument).collect()
 }
 
 fn function(routine: &Routine) -> Function {
@@ -86,8 +129,11 @@ fn function(routine: &Routine) -> Function {
 }
 
 /// Label a plain tree's nodes, which are numbered in the order of their
-/// places; gives the number after the tree's last.
+/// places; gives the number after the tree's last. What was inserted has none.
 fn label(labels: &mut Labels, tree: &AstNode, number: usize) -> usize {
+    if let Some(operand) = boolean::operand(tree) {
+        return label(labels, operand, number);
+    }
     labels.put(tree, Label::Node(number));
     let next = number + 1;
     match tree {
@@ -123,6 +169,8 @@ fn children(tree: &AstNode) -> Vec<&AstNode> {
 struct Grower<'a> {
     routine: &'a Routine,
     growth: Growth,
+    /// The declared names' types; of a name declared twice, the last one.
+    declared: HashMap<u16, u16>,
 }
 
 impl Grower<'_> {
@@ -136,7 +184,7 @@ impl Grower<'_> {
     fn statement(&self, number: usize) -> Statement {
         let statement = &self.routine.statements[number];
         Statement {
-            node: self.tree(statement.root as usize),
+            node: self.root(statement.root as usize),
             addresses: statement.address.into_iter().collect(),
         }
     }
@@ -166,12 +214,26 @@ impl Grower<'_> {
         }
     }
 
+    /// A statement's tree: a Return there is the routine's.
+    fn root(&self, at: usize) -> AstNode {
+        let below = self.routine.children(at);
+        match (self.routine.nodes[at].kind, &below[..]) {
+            (RETURN, &[value]) => {
+                let ty = self.spelling(self.routine.head.return_type);
+                AstNode::Return {
+                    value: Some(Box::new(self.converted(Place::Return, ty, value))),
+                }
+            }
+            _ => self.tree(at),
+        }
+    }
+
     fn tree(&self, at: usize) -> AstNode {
         let below = self.routine.children(at);
         match self.routine.nodes[at].kind {
             ASSIGN => AstNode::Assign {
                 lhs: Box::new(self.left_side(below[0], below[1])),
-                rhs: Box::new(self.tree(below[1])),
+                rhs: Box::new(self.right_side(below[0], below[1])),
             },
             CALL => AstNode::Call {
                 callee: Box::new(self.tree(below[0])),
@@ -197,10 +259,7 @@ impl Grower<'_> {
         let node = &self.routine.nodes[at];
         let child = |index: usize| Box::new(self.tree(below[index]));
         match node.kind {
-            CAST => AstNode::Cast {
-                ty: self.ty(at),
-                target: child(0),
-            },
+            CAST => self.cast(at, self.ty(at).to_string()),
             DEREF => AstNode::Deref { target: child(0) },
             ADDRESS_OF => AstNode::AddressOf { target: child(0) },
             TERNARY => AstNode::Ternary {
@@ -249,9 +308,9 @@ impl Grower<'_> {
 
     fn field(&self, at: usize) -> StructField {
         StructField {
-            ty: self.ty(at),
+            ty: self.ty(at).to_string(),
             offset: self.routine.nodes[at].value,
-            value: self.tree(at + 1),
+            value: self.converted(Place::Field, self.ty(at), at + 1),
         }
     }
 
@@ -266,28 +325,86 @@ impl Grower<'_> {
         }
     }
 
+    /// A Cast whose type is spelt so.
+    fn cast(&self, at: usize, ty: String) -> AstNode {
+        let target = self.converted(Place::Cast, self.ty(at), at + 1);
+        AstNode::Cast {
+            ty,
+            target: Box::new(target),
+        }
+    }
+
+    /// The tree at a node that is converted to a type at this place.
+    fn converted(&self, place: Place, ty: &str, node: usize) -> AstNode {
+        let tree = self.tree(node);
+        if self.growth.makes_bool(place, ty) {
+            boolean::converted(tree)
+        } else {
+            tree
+        }
+    }
+
     /// An Assign's left side, its printable part marked in marked trees.
     fn left_side(&self, left: usize, right: usize) -> AstNode {
         let kind = |node: usize| self.routine.nodes[node].kind;
-        let mark = |node: usize| marks::around(self.tree(node), node);
-        let structure = kind(right) == STRUCT_INIT;
         let deref = |target: AstNode| AstNode::Deref {
             target: Box::new(target),
         };
         let target = left + 1;
-        match kind(left) {
-            _ if self.growth == Growth::Plain => self.tree(left),
-            VAR if !structure => self.tree(left),
-            DEREF if kind(target) != CAST => deref(mark(target)),
-            DEREF if structure => deref(AstNode::Cast {
-                ty: self.ty(target),
-                target: Box::new(mark(target + 1)),
+        match (kind(left), kind(right) == STRUCT_INIT) {
+            (VAR, false) => self.tree(left),
+            (DEREF, _) if kind(target) != CAST => deref(self.marked(target)),
+            // The original takes this Cast off, and so it converts nothing.
+            (DEREF, true) => deref(AstNode::Cast {
+                ty: self.ty(target).to_string(),
+                target: Box::new(self.marked(target + 1)),
             }),
-            DEREF => deref(AstNode::Cast {
-                ty: marks::spelling(&self.ty(target), target),
-                target: Box::new(self.tree(target + 1)),
-            }),
-            _ => mark(left),
+            (DEREF, false) => deref(self.cast(target, self.marked_spelling(target))),
+            _ => self.marked(left),
+        }
+    }
+
+    fn marked(&self, node: usize) -> AstNode {
+        let tree = self.tree(node);
+        match self.growth {
+            Growth::Marked => marks::around(tree, node),
+            _ => tree,
+        }
+    }
+
+    fn marked_spelling(&self, node: usize) -> String {
+        let ty = self.ty(node);
+        match self.growth {
+            Growth::Marked => marks::spelling(ty, node),
+            _ => ty.to_string(),
+        }
+    }
+
+    /// An Assign's right side, converted to the type that it is stored by. A
+    /// structure is stored by its fields' types.
+    fn right_side(&self, left: usize, right: usize) -> AstNode {
+        match self.stored_by(left) {
+            Some((place, ty)) if self.routine.nodes[right].kind != STRUCT_INIT => {
+                self.converted(place, ty, right)
+            }
+            _ => self.tree(right),
+        }
+    }
+
+    /// The type that a left side stores by: a declared name's, or what a Cast
+    /// points at. A symbol has none.
+    fn stored_by(&self, left: usize) -> Option<(Place, &str)> {
+        let (node, target) = (&self.routine.nodes[left], left + 1);
+        match node.kind {
+            VAR => {
+                let ty = self.declared.get(&node.reference)?;
+                Some((Place::Name, self.spelling(*ty)))
+            }
+            DEREF if self.routine.nodes[target].kind == CAST => {
+                let ty = boolean::pointee(self.ty(target))?;
+                Some((Place::Pointer, ty))
+            }
+            _ => None,
         }
     }
 
@@ -296,8 +413,11 @@ impl Grower<'_> {
         self.routine.names[usize::from(reference)].clone()
     }
 
-    fn ty(&self, at: usize) -> String {
-        let reference = self.routine.nodes[at].reference;
-        self.routine.types[usize::from(reference)].clone()
+    fn ty(&self, at: usize) -> &str {
+        self.spelling(self.routine.nodes[at].reference)
+    }
+
+    fn spelling(&self, ty: u16) -> &str {
+        &self.routine.types[usize::from(ty)]
     }
 }

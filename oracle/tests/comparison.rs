@@ -1,14 +1,17 @@
 //! The comparison finds no difference in a part that is the original itself,
 //! and finds each of some faults.
 
+use oracle::boolean::{is_bool, pointee};
 use oracle::cases::{case, Case};
 use oracle::comparison::{
     compare_constant, compare_run, compare_worlds, constant_answer, constant_nodes, worlds,
     ConstantAnswer, Part,
 };
+use oracle::files::{bodies, types};
 use oracle::generate::Size;
 use oracle::judge::{judge, judge_constant, Files, Verdict};
-use oracle::refusal::faulty_nodes;
+use oracle::refusal::{check, faulty_nodes};
+use oracle::source::file;
 use oracle::two_worlds::Change;
 
 /// A fault of a part.
@@ -31,6 +34,8 @@ enum Fault {
     LastNode,
     /// All nodes tested for 5, then all for 30, then all for 31.
     LowestNumber,
+    /// A bool is 8 bits unsigned and nothing more.
+    BoolIsByte,
 }
 
 /// The original behind the entries, with a fault.
@@ -38,7 +43,8 @@ struct Original(Fault);
 
 impl Part for Original {
     fn run(&self, files: &Files, record: &mut [u8], workspace: &mut [u8]) -> (u32, u32) {
-        let verdict = judge(files, record.len(), workspace.len());
+        let taken = self.taken(files);
+        let verdict = judge(&taken, record.len(), workspace.len());
         let length = verdict.record.len();
         let clear_record = self.0 != Fault::RecordLeftAfter22;
         match verdict.number {
@@ -69,6 +75,16 @@ impl Part for Original {
 }
 
 impl Original {
+    /// The files as the part takes them.
+    fn taken(&self, files: &Files) -> Files {
+        let mut taken = files.clone();
+        let accepted = check(&files.routine, &files.world, &files.call).is_ok();
+        if self.0 == Fault::BoolIsByte && accepted {
+            taken.routine = with_bytes(&files.routine);
+        }
+        taken
+    }
+
     /// The number and what comes with it.
     fn answer(&self, verdict: &Verdict, routine: &[u8]) -> (u32, u32) {
         let Verdict { number, length, .. } = *verdict;
@@ -96,6 +112,23 @@ impl Original {
             *byte ^= 1;
         }
     }
+}
+
+/// A routine file with `uint8_t` for bool.
+fn with_bytes(routine: &[u8]) -> Vec<u8> {
+    let parts = bodies(routine, 6).expect("the file was accepted");
+    let mut parts: Vec<Vec<u8>> = parts.into_iter().map(<[u8]>::to_vec).collect();
+    parts[1].clear();
+    for ty in types(routine) {
+        let ty = match pointee(&ty) {
+            _ if is_bool(&ty) => "uint8_t",
+            Some(ty) if is_bool(ty) => "uint8_t *",
+            _ => &ty,
+        };
+        parts[1].push(ty.len() as u8);
+        parts[1].extend(ty.bytes());
+    }
+    file(&parts)
 }
 
 /// How many of some cases differ.
@@ -135,6 +168,7 @@ fn faults_are_found() {
         Fault::NodeOfConstantLeftOut,
         Fault::LastNode,
         Fault::LowestNumber,
+        Fault::BoolIsByte,
     ];
     for fault in faults {
         let found = differences(fault);

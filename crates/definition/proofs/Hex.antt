@@ -1,5 +1,6 @@
 -- Bytes as the examples write them, and the lines of a text. Each record and listing of an example is, byte for byte, what the Rust original gives, built
--- unchanged, for the same three files (docs/DEFINITION.md says how they were made). Assumes nothing.
+-- unchanged, for the same three files, or, where a type is a bool, what the second reading gives (docs/DEFINITION.md says how they were made;
+-- oracle/tests/examples.rs compares them). Assumes nothing.
 use mathlib.Core.Bool.{true, false, ◌&&◌}
 use mathlib.Core.List.{List, [], ◌∷◌, ◌++◌}
 use Prim.Native.Nat.{ℕ, ◌+◌, ◌-◌, ◌*◌}

@@ -35,10 +35,9 @@ pub fn put_types(types: &[u8], ws: &mut [u8])
     let unspelled = type_of(b"");
     let mut rest = texts(types);
     for i in 0..TYPE_LIMIT {
-        let (ty, pointee) = match rest.next() {
-            Some(text) => (type_of(text), points_at(text)),
-            None => (unspelled, None),
-        };
-        put_type(ws, i, ty, pointee);
+        match rest.next() {
+            Some(text) => put_type(ws, i, type_of(text), points_at(text)),
+            None => put_type(ws, i, unspelled, None),
+        }
     }
 }

@@ -5,7 +5,7 @@ use Rattle.std.specs.List.{slice_split, list_any, filter}
 use Prim.Native.String.{String}
 use Rattle.layout.specs.Text.{text, same}
 use Rattle.value.specs.declared.Ty.{Ty}
-use Rattle.value.specs.Value.{type}
+use Rattle.value.specs.Value.{type, bool_type, plain}
 
 -- ---- words
 
@@ -17,9 +17,15 @@ is w word = same w (text word)
 abbrev pub pieces : List ℕ → List (List ℕ)
 pieces s = slice_split (λ c. c == 32) s
 
--- Whether one of the pieces is `unsigned`.
+-- Whether a word is one of the pieces.
+abbrev pub any_is : List ℕ → List (List ℕ) → Bool
+any_is word ws = list_any (λ w. same w word) ws
+
 abbrev pub any_unsigned : List (List ℕ) → Bool
-any_unsigned ws = list_any (λ w. is w "unsigned") ws
+any_unsigned ws = any_is (text "unsigned") ws
+
+abbrev pub any_sign : List (List ℕ) → Bool
+any_sign ws = any_unsigned ws || any_is (text "signed") ws
 
 -- The words that name a base type: all but the qualifiers and the two words of sign.
 unfoldable pub dropped : List ℕ → Bool
@@ -69,10 +75,10 @@ fixed_bits w =
     (cond (is w "int64_t" || is w "intptr_t") (Some 64)
     None)))
 
--- A keyword of C, or what is left. "a bool type is 8 bits unsigned and nothing more"
+-- A keyword of C, or what is left.
 unfoldable pub alone : Bool → List ℕ → Ty
 alone u w =
-    cond (is_bool w) (type 8 false)
+    cond (is_bool w) bool_type
     (cond (is w "char") (type 8 (not u))
     (cond (is w "short") (type 16 (not u))
     (cond (is w "int") (type 32 (not u))
@@ -88,6 +94,13 @@ named u [] = type 32 (not u)
 named u (w ∷ []) = alone u w
 named u (v ∷ w ∷ []) = two u v w
 named u (v ∷ w ∷ x ∷ ws) = type 64 (not u)
+
+abbrev pub base_type : List (List ℕ) → Ty
+base_type ws = named (any_unsigned ws) (base_of ws)
+
+-- With a word of sign beside it a base type has bits and a sign alone: `unsigned bool` is 8 bits unsigned and nothing more.
+abbrev pub beside : Bool → Ty → Ty
+beside sign t = cond sign (plain t) t
 
 -- ---- pointers
 
@@ -112,7 +125,7 @@ abbrev pub before_star : List ℕ → List ℕ
 before_star s = reverse (rest (after_spaces (reverse s)))
 
 unfoldable pub type_of : List ℕ → Ty
-type_of s = cond (ends_star s) (type 64 false) (named (any_unsigned (pieces s)) (base_of (pieces s)))
+type_of s = cond (ends_star s) (type 64 false) (beside (any_sign (pieces s)) (base_type (pieces s)))
 
 -- What is found of a last star.
 pub record StarAt (s : List ℕ) (k : ℕ) : Type 0 where

@@ -5,7 +5,7 @@ ghost use Rattle.std.specs.Prelude.{◌≡◌, List, ℕ};
 ghost use Rattle.std.specs.Iterator.{AlwaysYields};
 ghost use Rattle.layout.specs.Text.{same};
 ghost use Rattle.value.specs.Value.{type};
-ghost use Rattle.spelling.specs.Spelling.{pieces, any_unsigned, dropped, is, is_bool, is_short_int, fixed_bits, unsigned_word, alone, two, named, FoundStar, type_of, pointee_of};
+ghost use Rattle.spelling.specs.Spelling.{pieces, any_is, any_sign, dropped, is, is_bool, is_short_int, fixed_bits, unsigned_word, alone, two, named, base_type, FoundStar, type_of, pointee_of};
 
 use value::Ty;
 
@@ -27,11 +27,17 @@ pub fn is_dropped(w: &[u8]) -> bool
     is(w, b"") || is(w, b"const") || is(w, b"volatile") || is(w, b"unsigned") || is(w, b"signed")
 }
 
-// Whether one of the pieces between the spaces is `unsigned`.
-pub fn has_unsigned(s: &[u8]) -> bool
-    ensures { result ≡ any_unsigned (pieces s.now) }
+// Whether a word is one of the pieces between the spaces.
+fn has(s: &[u8], word: &[u8]) -> bool
+    ensures { result ≡ any_is word.now (pieces s.now) }
 {
-    s.split(|c| *c == b' ').any(|w| is(w, b"unsigned"))
+    s.split(|c| *c == b' ').any(|w| is(w, word))
+}
+
+fn has_sign(s: &[u8]) -> bool
+    ensures { result ≡ any_sign (pieces s.now) }
+{
+    has(s, b"unsigned") || has(s, b"signed")
 }
 
 #[tactic(auto, unfolding(crate::specs::Spelling::is))]
@@ -90,7 +96,7 @@ fn type_of_word(w: &[u8], unsigned: bool) -> Ty
     ensures { result ≡ alone unsigned w.now }
 {
     if is_bool(w) {
-        Ty::U8
+        Ty::BOOL
     } else if is(w, b"char") {
         Ty::new(8, !unsigned)
     } else if is(w, b"short") {
@@ -140,15 +146,28 @@ pub fn last_star(s: &[u8]) -> Option<usize>
     if s[last] == b'*' { Some(last) } else { None }
 }
 
+// The type by its words, whatever word of sign stands beside a bool.
+fn base_type(s: &[u8]) -> Ty
+    ensures { result ≡ base_type (pieces s.now) }
+{
+    let words = s.split(|c| *c == b' ').filter(|w| !is_dropped(w));
+    named(words, has(s, b"unsigned"))
+}
+
 // The type that a spelling names.
+#[tactic(auto, using(crate::proofs::Star::is_starred, crate::proofs::Beside::kept, value::proofs::Pick::pick_true, value::proofs::Pick::pick_false), unfolding(crate::specs::Spelling::type_of))]
 pub fn type_of(s: &[u8]) -> Ty
     ensures { result ≡ type_of s.now }
 {
     if last_star(s).is_some() {
         return Ty::U64;
     }
-    let words = s.split(|c| *c == b' ').filter(|w| !is_dropped(w));
-    named(words, has_unsigned(s))
+    let ty = base_type(s);
+    if ty.boolean && has_sign(s) {
+        ty.plain()
+    } else {
+        ty
+    }
 }
 
 // What a spelling points at, where it is a pointer's.

@@ -17,9 +17,10 @@ use Rattle.value.specs.declared.BinaryOp.TheVariants.{Add, Sub, Mul, Div, Mod, A
 use Rattle.value.specs.declared.ArithmeticError.{ArithmeticError}
 use Rattle.value.specs.declared.ArithmeticError.TheVariants.{DivisionByZero}
 use Rattle.value.specs.Width.{width, residue}
-use Rattle.value.specs.Value.{type, type_of_val, known_val, unknown_val, convert, cast_to, meaning, read_as}
+use Rattle.value.specs.Value.{type, type_of_val, known_val, unknown_val, convert, as_bool, cast_to, meaning, read_as}
 use Rattle.value.specs.Operators.{count_of, operands_of, arithmetic, division, bitwise, truth, order, compared, shift, binary_of}
-use Rattle.spelling.specs.Spelling.{is, pieces, any_unsigned, base_of, is_bool, is_wide_unsigned, is_wide_signed, is_short_int, ends_star, signed_word, unsigned_word, alone, two, named, type_of}
+use Rattle.spelling.specs.Spelling.{type_of}
+use Rattle.spelling.proofs.Every.{every}
 use Rattle.value.proofs.Word.{width_le}
 use Rattle.definition.proofs.Fields.{ValFits}
 use Rattle.value.proofs.Residue.{residue_lt}
@@ -29,6 +30,10 @@ pub record TyIs (t : Ty) : Type 0 where
 
 pub record ValIs (v : Val) : Type 0 where
   pub fits : ValFits v
+
+pick_value : (b : Bool) {x y : Val} → ValIs x → ValIs y → ValIs (cond b x y)
+pick_value true p q = p
+pick_value false p q = q
 
 -- ---- numbers of a width
 
@@ -46,11 +51,7 @@ module _ {t : Ty} (h : TyIs t) where
   convert_fits z = record { fits = (h.bits, residue_fits t.bits z) }
 
   pub cast_fits : (v : Val) → ValIs (cast_to v t)
-  cast_fits v = go v.known
-    where
-      go : (b : Bool) → ValIs (cond b (convert (meaning v) t) (unknown_val t))
-      go true = convert_fits (meaning v)
-      go false = unknown_fits
+  cast_fits v = pick_value v.known (convert_fits (cond t.boolean (as_bool (meaning v)) (meaning v))) unknown_fits
 
 -- ---- types by their spelling
 
@@ -64,54 +65,13 @@ small h = record { bits = omega (arith, h) }
 eight : {s : Bool} → TyIs (type 8 s)
 eight = small (omega arith)
 
-sixteen : {s : Bool} → TyIs (type 16 s)
-sixteen = small (omega arith)
-
-thirty_two : {s : Bool} → TyIs (type 32 s)
-thirty_two = small (omega arith)
-
 pub sixty_four : {s : Bool} → TyIs (type 64 s)
 sixty_four = small (omega arith)
 
--- a type that one of four tests picks, or else another
-four : (a b c d : Bool) {s t u v x : Ty} → TyIs s → TyIs t → TyIs u → TyIs v → TyIs x → TyIs (cond a s (cond b t (cond c u (cond d v x))))
-four true b c d p q r o e = p
-four false true c d p q r o e = q
-four false false true d p q r o e = r
-four false false false true p q r o e = o
-four false false false false p q r o e = e
-
-signed_fits : (u : Bool) (w : List ℕ) → TyIs (signed_word u w)
-unfolding signed_word
-signed_fits u w = four (is w "int8_t") (is w "int16_t") (is w "int32_t") (is_wide_signed w) (eight {s = true}) (sixteen {s = true}) (thirty_two {s = true}) (sixty_four {s = true}) (sixty_four {s = not u})
-
-unsigned_fits : (u : Bool) (w : List ℕ) → TyIs (unsigned_word u w)
-unfolding unsigned_word
-unsigned_fits u w = four (is w "uint8_t") (is w "uint16_t") (is w "uint32_t") (is_wide_unsigned w) (eight {s = false}) (sixteen {s = false}) (thirty_two {s = false}) (sixty_four {s = false}) (signed_fits u w)
-
-alone_fits : (u : Bool) (w : List ℕ) → TyIs (alone u w)
-unfolding alone
-alone_fits u w = four (is_bool w) (is w "char") (is w "short") (is w "int") (eight {s = false}) (eight {s = not u}) (sixteen {s = not u}) (thirty_two {s = not u}) (unsigned_fits u w)
-
-two_fits : (u : Bool) (v w : List ℕ) → TyIs (two u v w)
-unfolding two
-two_fits u v w = pick_type (is_short_int v w) (sixteen {s = not u}) (sixty_four {s = not u})
-
-named_fits : (u : Bool) (ws : List (List ℕ)) → TyIs (named u ws)
-named_fits u [] = thirty_two
-named_fits u (w ∷ []) = alone_fits u w
-named_fits u (v ∷ w ∷ []) = two_fits u v w
-named_fits u (v ∷ w ∷ x ∷ ws) = sixty_four
-
 pub type_fits : (s : List ℕ) → TyIs (type_of s)
-unfolding type_of
-type_fits s = pick_type (ends_star s) (sixty_four {s = false}) (named_fits (any_unsigned (pieces s)) (base_of (pieces s)))
+type_fits = every TyIs (record { bits = omega arith }) (λ bits signed w l m. small m)
 
 -- ---- the operators
-
-pick_value : (b : Bool) {x y : Val} → ValIs x → ValIs y → ValIs (cond b x y)
-pick_value true p q = p
-pick_value false p q = q
 
 pub data AnswerIs : Result Val ArithmeticError → Type 0 where
   value_is : {v : Val} → ValIs v → AnswerIs (Ok v)

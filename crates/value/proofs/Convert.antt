@@ -1,6 +1,6 @@
 -- A word that is congruent to an integer converts as the integer does. The arithmetic, one law for each operation.
 -- Assumes nothing.
-use Rattle.std.proofs.Common.{◌≡◌, ℕ, suc, ◌+◌, ◌-◌, ◌*◌, ◌/◌, ◌%◌, ◌^◌, ◌<◌, ◌≤◌, Bool, true, false, cond, not, ℤ, pos, negsuc, ◌+ℤ◌, ◌-ℤ◌, ◌*ℤ◌, nat_abs, sym, refl, ap, ◌∙◌, ◌==◌, ne_eqb, Option, None, Some, Ok, lt_of_le_of_lt, mod-eq_of_lt, div-le_self, arith}
+use Rattle.std.proofs.Common.{◌≡◌, ℕ, suc, ◌+◌, ◌-◌, ◌*◌, ◌/◌, ◌%◌, ◌^◌, ◌<◌, ◌≤◌, Bool, true, false, cond, not, eqb, ℤ, pos, negsuc, ◌+ℤ◌, ◌-ℤ◌, ◌*ℤ◌, nat_abs, sym, refl, ap, ◌∙◌, ◌==◌, ne_eqb, Option, None, Some, Ok, lt_of_le_of_lt, mod-eq_of_lt, div-le_self, arith}
 use mathlib.Core.Bool.{beq, false≢true}
 use native.Mathlib.Nat.{zero-mod}
 use lib.Bits.{and_le_r}
@@ -11,11 +11,11 @@ use Rattle.value.specs.declared.Ty.{Ty}
 use Rattle.value.specs.declared.Val.{Val}
 use Rattle.value.specs.declared.Operands.{Operands}
 use Rattle.value.specs.Width.{width, low_bits, residue, is_negative, sized}
-use Rattle.value.specs.Value.{type_of_val, read_as, meaning, known_val, unknown_val, convert, cast_to}
+use Rattle.value.specs.Value.{type_of_val, read_as, meaning, known_val, unknown_val, convert, as_bool, cast_to}
 use Rattle.value.specs.Operators.{result_of, arithmetic, division, divided, count_of}
 use Rattle.value.proofs.Pick.{pick_true, pick_false}
 use Rattle.value.proofs.Residue.{residue_of, residue_fewer, residue_low, low_low, residue_add, residue_sub, residue_mul}
-use Rattle.value.proofs.Reading.{agree_read, bits_lt, read_minus, read_plus}
+use Rattle.value.proofs.Reading.{agree_read, as_bool_read, bits_lt, read_minus, read_plus}
 use Rattle.value.proofs.Word.{width_le}
 
 pub known_is : (n : ℕ) (z : ℤ) (t : Ty) → low_bits n t.bits ≡ residue (width t.bits) z → known_val n t ≡ convert z t
@@ -35,22 +35,36 @@ narrower v {bits} h =
 
 -- ---- the number of a value converted to a type
 
-module _ (v : Val) (t : Ty) where
-  known_number : v.known ≡ true → residue (width t.bits) (meaning v) ≡ (cast_to v t).number
-  known_number h = ap (λ (c : Val). c.number) (pick_true (unknown_val t) h)
-
-  pub cast_narrower : v.known ≡ true → t.bits ≤ v.bits → low_bits v.number t.bits ≡ (cast_to v t).number
-  cast_narrower h l = narrower v l ∙ known_number h
-
-  pub cast_wider : {n : ℕ} → v.known ≡ true → n ≡ residue 64 (meaning v) → low_bits n t.bits ≡ (cast_to v t).number
-  cast_wider {n} h e = ap (λ (c : Val). c.number) (word_is n (meaning v) t e) ∙ known_number h
-
-  pub cast_unknown : v.known ≡ false → low_bits 0 t.bits ≡ (cast_to v t).number
-  cast_unknown h = zero-mod (2 ^ width t.bits) ∙ ap (λ (c : Val). c.number) (pick_false (convert (meaning v) t) h)
-
 pub byte_of : (b : Bool) → bool_byte b ≡ cond b 1 0
 byte_of true = refl
 byte_of false = refl
+
+byte_not : (b : Bool) → bool_byte (not b) ≡ cond b 0 1
+byte_not true = refl
+byte_not false = refl
+
+module _ (v : Val) (t : Ty) where
+  -- the integer whose residue it is
+  abbrev integer : ℤ
+  integer = cond t.boolean (as_bool (meaning v)) (meaning v)
+
+  known_number : v.known ≡ true → {z : ℤ} → z ≡ integer → residue (width t.bits) z ≡ (cast_to v t).number
+  known_number h e = ap (residue (width t.bits)) e ∙ ap (λ (c : Val). c.number) (pick_true (unknown_val t) h)
+
+  pub cast_bool : v.known ≡ true → t.boolean ≡ true → low_bits (bool_byte (not (eqb (low_bits v.number v.bits) 0))) t.bits ≡ (cast_to v t).number
+  cast_bool h b =
+      let n = low_bits v.number v.bits in
+      ap (λ (k : ℕ). low_bits k t.bits) (byte_not (eqb n 0))
+      ∙ known_number h (sym (as_bool_read v.signed (width v.bits) n (bits_lt v.number v.bits)) ∙ pick_true (meaning v) b)
+
+  pub cast_narrower : v.known ≡ true → t.boolean ≡ false → t.bits ≤ v.bits → low_bits v.number t.bits ≡ (cast_to v t).number
+  cast_narrower h b l = narrower v l ∙ known_number h (pick_false (as_bool (meaning v)) b)
+
+  pub cast_wider : {n : ℕ} → v.known ≡ true → t.boolean ≡ false → n ≡ residue 64 (meaning v) → low_bits n t.bits ≡ (cast_to v t).number
+  cast_wider {n} h b e = ap (λ (c : Val). c.number) (word_is n (meaning v) t e) ∙ known_number h (pick_false (as_bool (meaning v)) b)
+
+  pub cast_unknown : v.known ≡ false → low_bits 0 t.bits ≡ (cast_to v t).number
+  cast_unknown h = zero-mod (2 ^ width t.bits) ∙ ap (λ (c : Val). c.number) (pick_false (convert integer t) h)
 
 module _ (p : Operands) where
   pub result_is : (f : ℤ → ℤ → ℤ) (n : ℕ) → known_val n p.ty ≡ convert (f (read_as p.ty p.a) (read_as p.ty p.b)) p.ty → result_of p (known_val n p.ty) ≡ arithmetic f p

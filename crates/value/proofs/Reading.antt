@@ -1,13 +1,13 @@
 -- Laws of `reading`: the integer that bits stand for is congruent to them, and which integer it is.
 -- Assumes nothing.
-use Rattle.std.proofs.Common.{◌≡◌, ℕ, zero, suc, ◌-◌, ◌/◌, ◌%◌, ◌^◌, ◌<◌, ◌≤◌, Bool, true, false, cond, not, ltb, leb, ℤ, pos, negsuc, ◌-ℤ◌, neg_ℤ, sym, refl, ap, ◌∙◌, not-suc-le-zero, mod-lt, mul_comm, add_comm, pow-suc, zero-add, sub-one, arith, pow_pos, ltb-false, ltb-true, le-ltb, lt-ltb, le-leb}
+use Rattle.std.proofs.Common.{◌≡◌, ℕ, zero, suc, ◌-◌, ◌/◌, ◌%◌, ◌^◌, ◌<◌, ◌≤◌, Bool, true, false, cond, not, ltb, leb, ℤ, pos, negsuc, ◌-ℤ◌, neg_ℤ, sym, refl, ap, ◌∙◌, not-suc-le-zero, mod-lt, mul_comm, add_comm, pow-suc, zero-add, sub-one, arith, pow_pos, eqb, ne_eqb, ltb-false, ltb-true, le-ltb, lt-ltb, le-leb}
 use mathlib.Core.Bool.{false≢true}
 use native.Mathlib.Nat.{zero-mod, mod-mod, mul-mod_left}
 use borrow.Author.Tests.{lt-leb}
 use lib.Signed.{lt_z, le_z}
 use Rattle.value.specs.declared.Ty.{Ty}
 use Rattle.value.specs.Width.{width, low_bits, reading, is_negative}
-use Rattle.value.specs.Value.{read_as}
+use Rattle.value.specs.Value.{read_as, as_bool}
 use Rattle.value.proofs.Modular as M
 use Rattle.value.proofs.Residue.{one_less, Agree}
 
@@ -82,6 +82,16 @@ read_minus false w n l h = absurd (false≢true h)
 pub read_plus : (s : Bool) (w n : ℕ) → n < 2 ^ w → is_negative (reading s w n) ≡ false → reading s w n ≡ pos n
 read_plus true w n l h = reading_low w n (ltb-false ((2 ^ w - 1) / 2) n (sign_law w n l ∙ h))
 read_plus false w n l h = refl
+
+-- ---- whether it is 0
+
+-- it is 0 where its bits are
+pub as_bool_read : (s : Bool) (w n : ℕ) → n < 2 ^ w → as_bool (reading s w n) ≡ pos (cond (eqb n 0) 0 1)
+as_bool_read s w n l = by_sign (is_negative (reading s w n)) refl
+  where
+    by_sign : (b : Bool) → is_negative (reading s w n) ≡ b → as_bool (reading s w n) ≡ pos (cond (eqb n 0) 0 1)
+    by_sign true h = rw (read_minus s w n l h, ne_eqb n 0 (λ e. omega (arith, e, above s w n l h))) refl
+    by_sign false h = ap as_bool (read_plus s w n l h)
 
 -- ---- the order
 

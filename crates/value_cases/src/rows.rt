@@ -22,7 +22,7 @@ pub const TYPES: Cases = Cases {
     what: "spellings of types",
     path: "types.bin",
     length: 69,
-    rows: 278,
+    rows: 314,
 };
 
 fn take_answer(row: &mut &[u8]) -> anyhow::Result<Result<Val, ArithmeticError>> {
@@ -73,6 +73,7 @@ pub fn cast(mut row: &[u8]) -> anyhow::Result<bool> {
 }
 
 // length u8, 64 bytes of spelling, its type, and the type of what it points at (of width 0 if it is no pointer's)
+// The original knows no bool, so only width and sign are compared.
 pub fn spelled(mut row: &[u8]) -> anyhow::Result<bool> {
     let length = row.try_get_u8()? as usize;
     let mut text = [0u8; 64];
@@ -82,5 +83,6 @@ pub fn spelled(mut row: &[u8]) -> anyhow::Result<bool> {
     let ty = take_type(&mut row)?;
     let pointee = take_type(&mut row)?;
     let points = (pointee.bits != 0).then_some(pointee);
-    Ok(spelling::type_of(spelling) == ty && spelling::points_at(spelling) == points)
+    let points_at = spelling::points_at(spelling).map(|ty| ty.plain());
+    Ok(spelling::type_of(spelling).plain() == ty && points_at == points)
 }

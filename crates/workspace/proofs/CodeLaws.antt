@@ -1,5 +1,5 @@
 -- The codes of types: each type that a spelling names has one, from which it is read again. Assumes nothing.
-use mathlib.Core.Path.{◌≡◌, refl, sym, ap, ◌∙◌}
+use mathlib.Core.Path.{◌≡◌, refl, sym, ap, ap₂, ◌∙◌}
 use mathlib.Core.Bool.{Bool, true, false, not}
 use Rattle.std.specs.Prelude.{Option, None, Some}
 use Prim.Native.Nat.{ℕ, zero, suc, ◌+◌, ◌*◌, ◌/◌, ◌%◌, ◌≤◌, ◌<◌}
@@ -20,7 +20,7 @@ flag_most false = omega arith
 
 pub code_small : (t : Ty) → Coded t → code_of t < 256
 unfolding code_of
-code_small t h = omega (arith, flag_most t.signed, h.most)
+code_small t h = omega (arith, flag_most t.signed, flag_most t.boolean, h.most)
 
 code_some : (t : Ty) → Coded t → 0 < code_of t
 unfolding code_of
@@ -29,10 +29,13 @@ code_some t h = omega (arith, h.whole, h.some)
 pub code_back : (t : Ty) → Coded t → type_of_code (code_of t) ≡ t
 unfolding code_of type_of_code
 code_back t h =
+    let c = t.bits + flag_of t.boolean * 2 + flag_of t.signed in
     let f = flag_most t.signed in
-    let b : (t.bits / 8 * 2 + flag_of t.signed) / 2 * 8 ≡ t.bits = omega (arith, f, h.whole) in
-    let s : (t.bits / 8 * 2 + flag_of t.signed) % 2 ≡ flag_of t.signed = omega (arith, f) in
-    λ i. record { bits = b i; signed = ◌∙◌ (ap bool_of s) (bool_back t.signed) i }
+    let g = flag_most t.boolean in
+    let b : c / 8 * 8 ≡ t.bits = omega (arith, f, g, h.whole) in
+    let s : c % 2 ≡ flag_of t.signed = omega (arith, f, h.whole) in
+    let d : c / 2 % 2 ≡ flag_of t.boolean = omega (arith, f, g, h.whole) in
+    λ i. record { bits = b i; signed = ◌∙◌ (ap bool_of s) (bool_back t.signed) i; boolean = ◌∙◌ (ap bool_of d) (bool_back t.boolean) i }
 
 pub some_code : (c : ℕ) → (c ≡ 0 → ⊥) → type_if_code c ≡ Some (type_of_code c)
 unfolding type_if_code
@@ -62,13 +65,13 @@ if_back (Some t) h = some_code (code_of t) (λ e. omega (arith, e, code_some t h
 
 -- ---- computed
 
-pub code_made : (t : Ty) → t.bits / 8 * 2 + bool_byte t.signed ≡ code_of t
+pub code_made : (t : Ty) → t.bits + bool_byte t.boolean * 2 + bool_byte t.signed ≡ code_of t
 unfolding code_of
-code_made t = ap (λ (n : ℕ). t.bits / 8 * 2 + n) (flag_written t.signed)
+code_made t = ap₂ (λ (m n : ℕ). t.bits + m * 2 + n) (flag_written t.boolean) (flag_written t.signed)
 
-pub type_made : (c : ℕ) → ◌≡◌ {A = Ty} (record { bits = c / 2 * 8; signed = not (eqb (c % 2) 0) }) (type_of_code c)
+pub type_made : (c : ℕ) → ◌≡◌ {A = Ty} (record { bits = c / 8 * 8; signed = not (eqb (c % 2) 0); boolean = not (eqb (c / 2 % 2) 0) }) (type_of_code c)
 unfolding type_of_code
-type_made c = λ i. record { bits = c / 2 * 8; signed = flag_read (c % 2) i }
+type_made c = λ i. record { bits = c / 8 * 8; signed = flag_read (c % 2) i; boolean = flag_read (c / 2 % 2) i }
 
 -- what a pointer points at
 

@@ -1,10 +1,9 @@
--- The types that names are declared with and that the routine's type table spells, each as a code of one byte: 0 for none, else the width in bytes
--- twice, and 1 for a sign. Assumes nothing.
+-- The types that names are declared with and that the routine's type table spells, each as a code of one byte: 0 for none, else the width in bits, and
+-- 1 for a sign, 2 for _Bool. Assumes nothing.
 use Rattle.std.specs.Prelude.{◌≡◌, List, ℕ, zero, suc, ◌+◌, ◌*◌, ◌/◌, ◌%◌, ◌<◌, ◌≤◌, Option, None, Some}
 use Rattle.layout.specs.Number.{number_at}
 use Rattle.layout.specs.Format.{flag_of, bool_of}
 use Rattle.value.specs.declared.Ty.{Ty}
-use Rattle.value.specs.Value.{type}
 use Rattle.workspace.specs.Parts.{declared_part, types_part}
 
 -- "Types, at most 512"
@@ -12,10 +11,10 @@ abbrev pub type_limit : ℕ
 type_limit = 512
 
 unfoldable pub code_of : Ty → ℕ
-code_of t = t.bits / 8 * 2 + flag_of t.signed
+code_of t = t.bits + flag_of t.boolean * 2 + flag_of t.signed
 
 unfoldable pub type_of_code : ℕ → Ty
-type_of_code c = type (c / 2 * 8) (bool_of (c % 2))
+type_of_code c = record { bits = c / 8 * 8; signed = bool_of (c % 2); boolean = bool_of (c / 2 % 2) }
 
 unfoldable pub code_if : Option Ty → ℕ
 code_if None = 0

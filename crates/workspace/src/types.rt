@@ -1,4 +1,4 @@
-// The types of declared names and of the routine's type table, each as a code of one byte: 0 for none, else the width in bytes twice, and 1 for a sign.
+// The types of declared names and of the routine's type table, each as a code of one byte: 0 for none, else the width in bits, and 1 for a sign, 2 for _Bool.
 // A name and a type go by their numbers, of which each function asks that they are few enough: `variables` says why.
 ghost use Rattle.std.specs.Prelude.{◌≡◌, ◌<◌, ◌≤◌, length};
 ghost use Rattle.layout.specs.Number.{number_at};
@@ -24,7 +24,7 @@ fn code(ty: Ty) -> u64
     requires { Coded ty }
     ensures { result ≡ code_of ty }
 {
-    ty.bits as u64 / 8 * 2 + ty.signed as u64
+    ty.bits as u64 + ty.boolean as u64 * 2 + ty.signed as u64
 }
 
 #[tactic(auto, using(crate::proofs::CodeLaws::type_made))]
@@ -32,7 +32,11 @@ fn decoded(code: u64) -> Ty
     requires { code < 256 }
     ensures { result ≡ type_of_code code }
 {
-    Ty::new((code / 2 * 8) as u32, code % 2 != 0)
+    Ty {
+        bits: (code / 8 * 8) as u32,
+        signed: code % 2 != 0,
+        boolean: code / 2 % 2 != 0,
+    }
 }
 
 #[tactic(auto, using(crate::proofs::CodeLaws::pointed_code, crate::proofs::CodeLaws::unpointed_code))]

@@ -1,14 +1,16 @@
 //! Lays our reader beside the original: `compare CASES PAIRS FIRST-SEED`.
 //!
-//! The fixed cases come first; of the others every second is damaged. A case
-//! that differs is written into a folder of its own under `differences/`, and
-//! the program ends with 1.
+//! The fixed cases come first; of the others every second is damaged. Cases
+//! that speak of bool, which the original alone does not judge, are compared
+//! with the second reading and counted apart. A case that differs is written
+//! into a folder of its own under `differences/`, and the program ends with 1.
 
 use std::path::{Path, PathBuf};
 use std::process::ExitCode;
-use std::{env, fs};
+use std::{env, fmt, fs};
 
 use library::Library;
+use oracle::boolean::speaks_of_bool;
 use oracle::cases::{case, fixed, Case};
 use oracle::comparison::{
     compare_constant, compare_run, compare_worlds, constant_nodes, worlds, Difference,
@@ -41,19 +43,46 @@ fn main() -> ExitCode {
     tally.report()
 }
 
+/// What was compared with one of the two judges.
+#[derive(Default)]
+struct Judged {
+    runs: u64,
+    damaged: u64,
+    constants: u64,
+}
+
+impl fmt::Display for Judged {
+    fn fmt(&self, out: &mut fmt::Formatter) -> fmt::Result {
+        let (runs, damaged, constants) = (self.runs, self.damaged, self.constants);
+        write!(
+            out,
+            "{runs} runs ({damaged} of changed files) and {constants} constants"
+        )
+    }
+}
+
 /// What was compared and what differed.
 #[derive(Default)]
 struct Tally {
     coverage: Coverage,
-    runs: u64,
-    damaged: u64,
-    constants: u64,
+    original: Judged,
+    second_reading: Judged,
     equal_pairs: u64,
     different_pairs: u64,
+    bool_pairs: u64,
     differences: usize,
 }
 
 impl Tally {
+    /// The counts that a case belongs to.
+    fn judged(&mut self, files: &Files) -> &mut Judged {
+        if speaks_of_bool(&files.routine) {
+            &mut self.second_reading
+        } else {
+            &mut self.original
+        }
+    }
+
     fn differs(&mut self, name: &str, files: &Files, difference: &Difference) {
         self.differences += 1;
         println!("{name}: {}", difference.0);
@@ -73,12 +102,13 @@ impl Tally {
             println!("not reached: {row}");
         }
         println!(
-            "{} runs compared ({} of changed files), {} constants",
-            self.runs, self.damaged, self.constants
+            "{} compared with the original, {} of routines with bool types with the second reading",
+            self.original, self.second_reading
         );
         println!(
-            "{} pairs of worlds with equal records, {} with different ones",
-            self.equal_pairs, self.different_pairs
+            "{} pairs of worlds with equal records, {} with different ones; \
+             {} of them of routines with bool types",
+            self.equal_pairs, self.different_pairs, self.bool_pairs
         );
         println!("{} differences", self.differences);
         ExitCode::from(u8::from(self.differences > 0))
@@ -113,7 +143,7 @@ fn compare_seed(tally: &mut Tally, seed: u64) {
 
 fn compare_constants(tally: &mut Tally, name: &str, case: &Case, nodes: &[u32]) {
     for node in nodes {
-        tally.constants += 1;
+        tally.judged(&case.files).constants += 1;
         match compare_constant(&Library, &case.files.routine, *node, case.workspace) {
             Ok(answer) => tally.coverage.count_constant(&answer),
             Err(difference) => tally.differs(name, &case.files, &difference),
@@ -122,8 +152,9 @@ fn compare_constants(tally: &mut Tally, name: &str, case: &Case, nodes: &[u32]) 
 }
 
 fn compare_case(tally: &mut Tally, name: &str, case: &Case) {
-    tally.runs += 1;
-    tally.damaged += u64::from(case.how.is_some());
+    let judged = tally.judged(&case.files);
+    judged.runs += 1;
+    judged.damaged += u64::from(case.how.is_some());
     match compare_run(&Library, case) {
         Ok(verdict) => tally.coverage.count(&case.files, &verdict),
         Err(difference) => tally.differs(name, &case.files, &difference),
@@ -135,6 +166,7 @@ fn compare_pair(tally: &mut Tally, seed: u64) {
     let Some(worlds) = worlds(seed, change) else {
         return;
     };
+    tally.bool_pairs += u64::from(speaks_of_bool(&worlds.first.files.routine));
     match compare_worlds(&Library, &worlds) {
         Ok(true) => tally.equal_pairs += 1,
         Ok(false) => tally.different_pairs += 1,

@@ -3,8 +3,9 @@
 //! Each case is a folder with routine.bin, world.bin, call.bin and, as
 //! expected.txt, what the original prints: `Run::text` with the statement's
 //! number for its text and `node N` where it prints an expression, or
-//! `; refused N`. An empty file is left out, since the program takes a file
-//! that it cannot open as empty.
+//! `; refused N`. Where a type speaks of bool it is what the second reading
+//! prints. An empty file is left out, since the program takes a file that it
+//! cannot open as empty.
 
 use std::path::Path;
 use std::{env, fs};

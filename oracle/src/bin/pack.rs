@@ -4,14 +4,17 @@
 //! The fixed cases come first, then LARGE cases of any size, then small ones,
 //! until there are CASES at least. Every second one is damaged. Large ones, every
 //! fourth small one and the fixed ones with faulty nodes are followed by two of
-//! `constant_value`.
+//! `constant_value`. A case that speaks of bool is left out, since the original
+//! alone does not judge it.
 //!
 //! Prints what the cases reach, and ends with 1 if something is not reached
 //! or the file is too large.
 
+use std::ops::RangeFrom;
 use std::process::ExitCode;
 use std::{env, fs};
 
+use oracle::boolean::speaks_of_bool;
 use oracle::cases::{case, fixed, Case};
 use oracle::comparison::{constant_answer, constant_nodes};
 use oracle::coverage::Coverage;
@@ -31,26 +34,32 @@ fn main() -> ExitCode {
     let cases = numbers.next().unwrap_or(11_000);
     let large = numbers.next().unwrap_or(300);
     let first = numbers.next().unwrap_or(1_000_000);
-    let mut maker = Maker::default();
-    for case in fixed() {
+    let mut maker = Maker {
+        packer: Packer::default(),
+        coverage: Coverage::without_bool(),
+        made: Vec::new(),
+    };
+    for case in fixed().into_iter().filter(judged_alone) {
         maker.run(&case);
         for node in case.constants() {
             maker.constant(&case, *node);
         }
     }
-    for seed in first..first + large {
-        maker.seed(seed, Size::Any);
+    let mut seeds = first..;
+    for _ in 0..large {
+        maker.next(&mut seeds, Size::Any);
     }
-    for seed in first + large.. {
-        if u64::from(maker.packer.count()) >= cases {
-            break;
-        }
-        maker.seed(seed, Size::Small);
+    while u64::from(maker.packer.count()) < cases {
+        maker.next(&mut seeds, Size::Small);
     }
     maker.finish(&file)
 }
 
-#[derive(Default)]
+/// Whether the original alone judges a case.
+fn judged_alone(case: &Case) -> bool {
+    !speaks_of_bool(&case.files.routine)
+}
+
 struct Maker {
     packer: Packer,
     coverage: Coverage,
@@ -58,8 +67,11 @@ struct Maker {
 }
 
 impl Maker {
-    fn seed(&mut self, seed: u64, size: Size) {
-        let case = case(seed, size);
+    /// The case of the next seed whose case is not left out.
+    fn next(&mut self, seeds: &mut RangeFrom<u64>, size: Size) {
+        let mut cases = seeds.map(|seed| (seed, case(seed, size)));
+        let found = cases.find(|(_, case)| judged_alone(case));
+        let (seed, case) = found.expect("seeds have no end");
         self.run(&case);
         if size == Size::Any || seed.is_multiple_of(4) {
             for node in constant_nodes(&case.files.routine, seed)

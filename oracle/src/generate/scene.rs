@@ -1,6 +1,7 @@
 //! What the statements of a generated routine are about: its variables, the
 //! world's symbols and memory, and the types that are spelt.
 
+use crate::boolean::has_bool;
 use crate::random::Random;
 use crate::source::{Routine, World};
 use crate::spellings::SPELLINGS;
@@ -14,7 +15,7 @@ const WORDS: [&str; 36] = [
 ];
 
 /// Types that most variables and pointers have.
-const USUAL: [&str; 14] = [
+const USUAL: [&str; 13] = [
     "int",
     "char",
     "unsigned char",
@@ -28,7 +29,18 @@ const USUAL: [&str; 14] = [
     "int16_t",
     "uint32_t",
     "int64_t",
+];
+
+/// Types of most places in a scene about bool.
+const BOOLS: [&str; 8] = [
     "bool",
+    "_Bool",
+    "const bool",
+    "bool volatile",
+    "volatile bool",
+    "const volatile _Bool const",
+    "unsigned bool",
+    "bool *",
 ];
 
 pub struct Scene {
@@ -42,6 +54,9 @@ pub struct Scene {
     /// In how many of 100 places something unknown is used on purpose; with
     /// none, other causes of unknown values are kept rare too.
     pub risk: usize,
+    /// Whether it is about bool. No type of another scene speaks of it, so
+    /// that the original alone can judge.
+    pub boolean: bool,
 }
 
 impl Scene {
@@ -49,6 +64,7 @@ impl Scene {
     pub fn new(mut random: Random) -> (Self, Routine, World) {
         let mut scene = Self {
             risk: *random.pick(&[0, 0, 0, 1, 4, 15]),
+            boolean: random.chance(1, 6),
             random,
             variables: Vec::new(),
             free: Vec::new(),
@@ -77,10 +93,18 @@ impl Scene {
     }
 
     pub fn ty(&mut self) -> &'static str {
+        if self.boolean && self.random.chance(2, 3) {
+            let ty: &&'static str = self.random.pick(&BOOLS);
+            return ty;
+        }
         let odd = self.random.chance(1, 4);
         let list = if odd { SPELLINGS } else { &USUAL };
-        let ty: &&'static str = self.random.pick(list);
-        ty
+        loop {
+            let ty: &&'static str = self.random.pick(list);
+            if self.boolean || !has_bool(ty) {
+                return ty;
+            }
+        }
     }
 
     /// A spelling that ends in a star, or now and then one that should.

@@ -22,7 +22,7 @@ pub fn walk(random: Random) -> Sources {
         for _ in 0..*scene.random.pick(&[0, 1, 2, 3, 3, 4, 5, 7]) {
             scene.add_statement(&mut routine);
         }
-        if scene.random.chance(1, 6) {
+        if scene.random.chance(if scene.boolean { 3 } else { 1 }, 6) {
             scene.add_return(&mut routine);
         }
         scene.close_block(&mut routine, blocks);

@@ -1,5 +1,6 @@
 //! Tiny routines, each for one thing that a run does.
 
+mod bools;
 mod calls;
 mod ends;
 mod evaluation;
@@ -30,6 +31,7 @@ pub fn cases() -> Vec<Tiny> {
         memory::cases(),
         evaluation::cases(),
         calls::cases(),
+        bools::cases(),
     ]
     .concat()
 }

@@ -1,16 +1,15 @@
--- `spelling::has_unsigned` meets its contract.
+-- `spelling::has` meets its contract.
 -- Assumes nothing.
 use Rattle.std.proofs.Common.{rules}
 use borrow.Author.Tests.{tests}
 use lib.Dec.{eqb}
 use Rattle.std.proofs.lemmas.Iterator.Search.{any_from_yields_List}
 use Rattle.std.proofs.lemmas.Iterator.Splits.{YieldsList-from_slice_split}
-use Rattle.spelling.specs.Spelling.{is}
-use Rattle.spelling.proofs.has_unsigned.Goals as goal
+use Rattle.layout.specs.Text.{same}
+use Rattle.spelling.proofs.has.Goals as goal
 
 pub returns : goal.returns
-unfolding is
 returns c =
-    any_from_yields_List (λ w. is w "unsigned") _ _ _ c.any.ensures.ran
+    any_from_yields_List (λ w. same w c.args.word.now) _ _ _ c.any.ensures.ran
     (YieldsList-from_slice_split _ (λ b. eqb b 32) c.args.s.now c.split.ensures.rest c.split.ensures.done c.split.ensures.closure (λ x b q k. search (rules, tests)))
     (λ x b q k. search (rules, tests))

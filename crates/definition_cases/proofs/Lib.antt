@@ -1,0 +1,4 @@
+pub mod ExamplesBool
+pub mod ExamplesBoolCalls
+pub mod ExamplesBoolNear
+pub mod ExamplesDoor
