@@ -35,6 +35,7 @@ pub fn put_types(types: &[u8], ws: &mut [u8])
     let unspelled = type_of(b"");
     let mut rest = texts(types);
     for i in 0..TYPE_LIMIT {
+        // Each arm puts by itself, so that past the last text the bytes are made once and not each time.
         match rest.next() {
             Some(text) => put_type(ws, i, type_of(text), points_at(text)),
             None => put_type(ws, i, unspelled, None),

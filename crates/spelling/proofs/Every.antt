@@ -1,12 +1,9 @@
 -- A property of every type of 8, 16, 32 or 64 bits, and of _Bool, is one of every type that a spelling names. Assumes nothing.
-use Rattle.std.proofs.Common.{◌≡◌, refl, Bool, true, false, cond, not, List, [], ◌∷◌, ℕ, ◌%◌, ◌<◌, ◌≤◌, arith}
+use Rattle.std.proofs.Common.{◌≡◌, refl, Bool, true, false, not, List, [], ◌∷◌, ℕ, ◌%◌, ◌<◌, ◌≤◌, arith}
 use Rattle.value.specs.declared.Ty.{Ty}
 use Rattle.value.specs.Value.{type, bool_type, plain}
+use Rattle.value.proofs.Pick.{either}
 use Rattle.spelling.specs.Spelling.{is, is_bool, is_wide_unsigned, is_wide_signed, is_short_int, signed_word, unsigned_word, alone, two, named, pieces, any_sign, any_unsigned, base_of, beside, ends_star, type_of}
-
-either : (P : Ty → Type 0) (t : Bool) {x y : Ty} → P x → P y → P (cond t x y)
-either P true p q = p
-either P false p q = q
 
 -- of whole bytes, at most 64 bits
 abbrev pub Sized : (Ty → Type 0) → Type 0

@@ -1,5 +1,5 @@
 -- Values fit their fields, whatever they are made of. Assumes nothing.
-use mathlib.Core.Bool.{Bool, true, false, cond, ◌&&◌}
+use mathlib.Core.Bool.{Bool, false, cond, ◌&&◌}
 use mathlib.Core.List.{List}
 use Prim.Native.Nat.{ℕ, ◌^◌, ◌≤◌}
 use native.Mathlib.Nat.{mod-lt, lt_of_lt_of_le}
@@ -21,6 +21,7 @@ use Rattle.value.specs.Value.{type, type_of_val, known_val, unknown_val, convert
 use Rattle.value.specs.Operators.{count_of, operands_of, arithmetic, division, bitwise, truth, order, compared, shift, binary_of}
 use Rattle.spelling.specs.Spelling.{type_of}
 use Rattle.spelling.proofs.Every.{every}
+use Rattle.value.proofs.Pick.{either}
 use Rattle.value.proofs.Word.{width_le}
 use Rattle.definition.proofs.Fields.{ValFits}
 use Rattle.value.proofs.Residue.{residue_lt}
@@ -30,10 +31,6 @@ pub record TyIs (t : Ty) : Type 0 where
 
 pub record ValIs (v : Val) : Type 0 where
   pub fits : ValFits v
-
-pick_value : (b : Bool) {x y : Val} → ValIs x → ValIs y → ValIs (cond b x y)
-pick_value true p q = p
-pick_value false p q = q
 
 -- ---- numbers of a width
 
@@ -51,13 +48,9 @@ module _ {t : Ty} (h : TyIs t) where
   convert_fits z = record { fits = (h.bits, residue_fits t.bits z) }
 
   pub cast_fits : (v : Val) → ValIs (cast_to v t)
-  cast_fits v = pick_value v.known (convert_fits (cond t.boolean (as_bool (meaning v)) (meaning v))) unknown_fits
+  cast_fits v = either ValIs v.known (convert_fits (cond t.boolean (as_bool (meaning v)) (meaning v))) unknown_fits
 
 -- ---- types by their spelling
-
-pick_type : (b : Bool) {x y : Ty} → TyIs x → TyIs y → TyIs (cond b x y)
-pick_type true p q = p
-pick_type false p q = q
 
 pub small : {k : ℕ} {s : Bool} → k ≤ 64 → TyIs (type k s)
 small h = record { bits = omega (arith, h) }
@@ -77,10 +70,6 @@ pub data AnswerIs : Result Val ArithmeticError → Type 0 where
   value_is : {v : Val} → ValIs v → AnswerIs (Ok v)
   no_value : AnswerIs (Err DivisionByZero)
 
-pick_answer : (b : Bool) {x y : Result Val ArithmeticError} → AnswerIs x → AnswerIs y → AnswerIs (cond b x y)
-pick_answer true p q = p
-pick_answer false p q = q
-
 module _ {l r : Val} (hl : ValIs l) (hr : ValIs r) where
   type_of_lem : {v : Val} → ValIs v → TyIs (type_of_val v)
   type_of_lem h = record { bits = h.fits.0 }
@@ -89,24 +78,24 @@ module _ {l r : Val} (hl : ValIs l) (hr : ValIs r) where
   unfolding operands_of
   operands_fit =
       let t : TyIs (type l.bits (l.signed && r.signed)) = record { bits = hl.fits.0 } in
-      pick_type (ltb r.bits l.bits) (type_of_lem hl) (pick_type (ltb l.bits r.bits) (type_of_lem hr) t)
+      either TyIs (ltb r.bits l.bits) (type_of_lem hl) (either TyIs (ltb l.bits r.bits) (type_of_lem hr) t)
 
   module _ (p : Operands) (h : TyIs p.ty) where
     arithmetic_fits : (f : ℤ → ℤ → ℤ) → ValIs (arithmetic f p)
     unfolding arithmetic
-    arithmetic_fits f = pick_value p.known (convert_fits h (f (read_as p.ty p.a) (read_as p.ty p.b))) (unknown_fits h)
+    arithmetic_fits f = either ValIs p.known (convert_fits h (f (read_as p.ty p.a) (read_as p.ty p.b))) (unknown_fits h)
 
     division_fits : (f : ℤ → ℤ → ℤ) → AnswerIs (division f p)
     unfolding division
-    division_fits f = pick_answer (eqb (nat_abs (read_as p.ty p.b)) 0) (pick_answer p.known no_value (value_is (unknown_fits h))) (value_is (arithmetic_fits f))
+    division_fits f = either AnswerIs (eqb (nat_abs (read_as p.ty p.b)) 0) (either AnswerIs p.known no_value (value_is (unknown_fits h))) (value_is (arithmetic_fits f))
 
     bitwise_fits : (f : ℕ → ℕ → ℕ) → ValIs (bitwise f p)
     unfolding bitwise
-    bitwise_fits f = pick_value p.known (known_fits h (f p.a p.b)) (unknown_fits h)
+    bitwise_fits f = either ValIs p.known (known_fits h (f p.a p.b)) (unknown_fits h)
 
   truth_fits : (b : Bool) (p : Operands) → ValIs (truth b p)
   unfolding truth
-  truth_fits b p = pick_value p.known (known_fits (eight {s = false}) (cond b 1 0)) (unknown_fits (eight {s = p.ty.signed}))
+  truth_fits b p = either ValIs p.known (known_fits (eight {s = false}) (cond b 1 0)) (unknown_fits (eight {s = p.ty.signed}))
 
   order_fits : (f : ℤ → ℤ → Bool) (p : Operands) → ValIs (order f p)
   unfolding order
@@ -118,7 +107,7 @@ module _ {l r : Val} (hl : ValIs l) (hr : ValIs r) where
 
   shift_fits : (f : ℤ → ℕ → ℤ) → ValIs (shift f l r)
   unfolding shift
-  shift_fits f = pick_value (l.known && r.known) (convert_fits (type_of_lem hl) (f (meaning l) (2 ^ count_of l r))) (unknown_fits (type_of_lem hl))
+  shift_fits f = either ValIs (l.known && r.known) (convert_fits (type_of_lem hl) (f (meaning l) (2 ^ count_of l r))) (unknown_fits (type_of_lem hl))
 
   pub binary_fits : (o : BinaryOp) → AnswerIs (binary_of o l r)
   unfolding binary_of
