@@ -1,6 +1,15 @@
 /* The reader of lifted routines, as a host in C (C99) or C++ calls it.
  *
- * Link libemulate.a; the texts at the end of this header are in emulate_text.c.
+ * Link libemulate.a; the texts at the end of this header are in emulate_text.c (an installed library
+ * has them inside). docs/FILES.md has the layout of the three files and of the record, docs/FORMS.md
+ * the files as text.
+ *
+ * What it cannot know is unknown. Two things a host's author must know beside that:
+ * - No call is followed. After one, memory and symbols are taken as unchanged, whatever it may have
+ *   written, and only the locals and parameters that it was given as plain `&name` become unknown.
+ * - What a run reckons is not always what C does: nothing is promoted to int, both arms of ?: are
+ *   evaluated, a symbol is read as signed. docs/FORMS.md, "Where this is not C", has each point with
+ *   an example.
  *
  * What holds for both entries:
  * - The host owns all memory. A call reads its files, writes nothing but the buffers lent to it,
@@ -10,7 +19,13 @@
  *   alignment, and what a buffer holds before the call does not matter.
  * - Record buffer and workspace overlap neither each other nor a file. Files may overlap.
  * - Any bytes may be given as files: what is not well formed is refused by a number.
- * - Every call returns. It needs at most EMULATE_STACK_NEEDED bytes of stack.
+ * - Every call returns. It needs at most EMULATE_STACK_NEEDED bytes of stack beside the caller's own
+ *   frames. Give a thread 64 KiB: the thread library takes its share of a thread's stack.
+ * - The call's steps bound the time: a unit evaluates at most one tree of the routine, and each node
+ *   of it once. The costliest unit found takes 0.8 milliseconds (3,150 loads), and 1.3 in a run that
+ *   goes over the routine twice (EMULATE_WORKSPACE_NEEDED); one of a counting loop takes 0.02
+ *   microseconds. That is on an Intel Xeon at 2.5 GHz. A host that must go on in a given time gives
+ *   no more steps than that allows.
  * - Threads may call at once, each with buffers of its own. They may share files.
  * - Equal files and equal lengths of the buffers give the same answer and the same record.
  */
@@ -25,6 +40,9 @@
 #ifdef __cplusplus
 extern "C" {
 #endif
+
+/* The first number grows where a host must be changed, the second where something is added. */
+#define EMULATE_VERSION "1.0.0"
 
 /* ---- Lengths */
 
@@ -42,13 +60,15 @@ extern "C" {
 /* The shortest record: a run without steps, variables, written bytes and questions. */
 #define EMULATE_RECORD_LEAST 99
 
-/* Bytes of stack that a call needs at most, on the calling thread: 24,671 were measured with the
- * deepest and the widest routines (stack.c). */
+/* Bytes of stack that a call needs at most, on the calling thread, beside what is on it already:
+ * 24,671 were measured with the deepest and the widest routines (stack.c). */
 #define EMULATE_STACK_NEEDED 32768
 
 /* ---- The numbers of an answer */
 
-/* The first that applies is given, in this order: 1 to 4; 5, 30 and 31 node by node (a node is
+/* docs/FILES.md has the rules that each stands for.
+ *
+ * The first that applies is given, in this order: 1 to 4; 5, 30 and 31 node by node (a node is
  * tested for 5, then 30, then 31, and only then the next one); 6 to 9; 20 to 22.
  * What each leaves in the buffers:
  * - 0: the record stands at the start of its buffer, and the buffer beyond it is unchanged; the
@@ -66,7 +86,7 @@ enum emulate_refusal {
     EMULATE_REFUSED_TREES = 6,   /* the nodes' body length, spans, child counts, depth, fields */
     EMULATE_REFUSED_BLOCKS = 7,  /* statements, blocks, or a root that is no node or is a field */
     EMULATE_REFUSED_WORLD = 8,   /* the world file */
-    EMULATE_REFUSED_CALL = 9,    /* the call file; in constant_value a node as in 7 */
+    EMULATE_REFUSED_CALL = 9,    /* the call file; in constant_value a node that is none or a field */
     EMULATE_WORKSPACE_SHORT = 20, /* the workspace is under 65,536 bytes */
     EMULATE_ADDRESSES_OVER = 21,  /* the run writes over 4,096 distinct addresses */
     EMULATE_RECORD_LONG = 22,     /* the record is longer than its buffer or than 2^32 - 1 bytes */
@@ -81,7 +101,19 @@ static inline bool emulate_tells_node(uint32_t number)
         || number == EMULATE_REFUSED_UNUSED;
 }
 
-/* ---- The entries */
+/* ---- The entries
+ *
+ * A program that has a `run` or a `constant_value` of its own defines EMULATE_PREFIXED before this
+ * header, and calls emulate_run and emulate_constant_value. libemulate.a has both under these names
+ * too; where the linker says that `run` is defined twice, libemulate_prefixed.a has them alone.
+ * Without EMULATE_PREFIXED a global `run` in another file of the program is called in the place of
+ * the library's, and no tool says so. */
+
+#ifdef EMULATE_PREFIXED
+#define EMULATE_ENTRY(name) emulate_##name
+#else
+#define EMULATE_ENTRY(name) name
+#endif
 
 /* 0 and the record's length in bytes, or a refusal's number and, for 5, 30 and 31, the number of
  * the lowest faulty node, counted from 0 over the whole file, else 0. */
@@ -96,12 +128,13 @@ struct emulate_answer {
  * record: the buffer that the record is written to, of any length.
  * workspace: at least EMULATE_WORKSPACE_NEEDED bytes, used while the call lasts.
  *
- * After 22 a longer record buffer may help; its need is not told. */
-struct emulate_answer run(const uint8_t *routine, size_t routine_length,
-                          const uint8_t *world, size_t world_length,
-                          const uint8_t *call, size_t call_length,
-                          uint8_t *record, size_t record_length,
-                          uint8_t *workspace, size_t workspace_length);
+ * After 22 a longer record buffer may help; its need is not told. "How long a record is", below, has
+ * the formula, and emulate_record_most gives a length before the call that is enough. */
+struct emulate_answer EMULATE_ENTRY(run)(const uint8_t *routine, size_t routine_length,
+                                         const uint8_t *world, size_t world_length,
+                                         const uint8_t *call, size_t call_length,
+                                         uint8_t *record, size_t record_length,
+                                         uint8_t *workspace, size_t workspace_length);
 
 /* A refusal's number (0 for none), and the value: every other field is 0 (false) after a refusal
  * and where the node has no known value, but that after 5, 30 and 31 `number` is the number of the
@@ -120,9 +153,10 @@ struct emulate_constant {
  * node: a node's number, counted from 0 over the whole file, that is no field of a struct.
  * workspace: as for `run`. There is no record, so 22 is never given, nor is 8; the workspace is
  * left as `run` leaves it after the same number. */
-struct emulate_constant constant_value(const uint8_t *routine, size_t routine_length,
-                                       uint32_t node,
-                                       uint8_t *workspace, size_t workspace_length);
+struct emulate_constant EMULATE_ENTRY(constant_value)(const uint8_t *routine,
+                                                      size_t routine_length, uint32_t node,
+                                                      uint8_t *workspace,
+                                                      size_t workspace_length);
 
 /* ---- What the numbers in a record mean */
 
@@ -180,7 +214,9 @@ enum emulate_asked {
     EMULATE_ASKED_CALL = 4
 };
 
-/* ---- The layout of a record: little-endian, nothing aligned */
+/* ---- The layout of a record: little-endian, nothing aligned
+ *
+ * docs/FILES.md says what each field holds and when it is 0, with a record byte by byte. */
 
 /* Six pairs: where a body starts, from the record's first byte, and its length, each u32. */
 #define EMULATE_SIZE_PAIR 8
@@ -288,6 +324,19 @@ static inline struct emulate_bytes emulate_after(struct emulate_bytes bytes, siz
     return bytes;
 }
 
+/* The `length` bytes of `bytes` that begin at `offset`; where not all of them are there, no bytes,
+ * and `first` is NULL. */
+static inline struct emulate_bytes emulate_part(struct emulate_bytes bytes, uint64_t offset,
+                                                uint64_t length)
+{
+    struct emulate_bytes part = { NULL, 0 };
+    if (offset > bytes.length || length > bytes.length - offset)
+        return part;
+    part = emulate_after(bytes, (size_t)offset);
+    part.length = (size_t)length;
+    return part;
+}
+
 /* The record that a run left in its buffer; no bytes after a refusal, whose `length` may be a
  * node's number. */
 static inline struct emulate_bytes emulate_record(const uint8_t *buffer,
@@ -303,19 +352,12 @@ static inline struct emulate_bytes emulate_record(const uint8_t *buffer,
 static inline struct emulate_bytes emulate_body(struct emulate_bytes record,
                                                 enum emulate_bodies which)
 {
-    struct emulate_bytes body = emulate_after(record, record.length);
-    const uint8_t *pair;
-    uint64_t offset, length;
+    const uint8_t *pair = record.first;
     if (record.length < EMULATE_SIZE_PAIRS || (unsigned)which > EMULATE_BODY_QUESTIONS)
-        return body;
-    pair = record.first + EMULATE_SIZE_PAIR * (size_t)which;
-    offset = emulate_number(pair + EMULATE_AT_PAIR_OFFSET, 4);
-    length = emulate_number(pair + EMULATE_AT_PAIR_LENGTH, 4);
-    if (offset > record.length || length > record.length - offset)
-        return body;
-    body.first = record.first + (size_t)offset;
-    body.length = (size_t)length;
-    return body;
+        return emulate_after(record, record.length);
+    pair += EMULATE_SIZE_PAIR * (size_t)which;
+    return emulate_part(record, emulate_number(pair + EMULATE_AT_PAIR_OFFSET, 4),
+                        emulate_number(pair + EMULATE_AT_PAIR_LENGTH, 4));
 }
 
 /* A value: `number` is below 2^bits where the value is known, and 0 where it is unknown. A value
@@ -560,14 +602,137 @@ static inline size_t emulate_read_question(struct emulate_bytes from,
     return used;
 }
 
+/* ---- Names and types of a routine file
+ *
+ * A record tells names by their number in the routine file. What is given is its letters there,
+ * without a zero after them; `first` is NULL where the file has no such number. Any bytes may be
+ * given as the file: nothing beyond them is looked at. */
+
+/* A text of a list in which a byte before each text tells its length. */
+static inline struct emulate_bytes emulate_listed(struct emulate_bytes list, uint16_t number)
+{
+    while (number > 0 && list.length > 0) {
+        list = emulate_after(list, 1 + (size_t)list.first[0]);
+        number--;
+    }
+    return emulate_part(list, 1, list.length > 0 ? list.first[0] : 0);
+}
+
+/* A body of one of the three files, by its place in the file's table. */
+static inline struct emulate_bytes emulate_file_body(struct emulate_bytes file, size_t which)
+{
+    struct emulate_bytes pair = emulate_part(file, 2 + 4 * which, 4);
+    if (pair.length == 0)
+        return pair;
+    return emulate_part(file, emulate_number(pair.first, 2), emulate_number(pair.first + 2, 2));
+}
+
+/* A name: a variable's, a symbol's, a function's. */
+static inline struct emulate_bytes emulate_name(struct emulate_bytes routine, uint16_t number)
+{
+    return emulate_listed(emulate_file_body(routine, 0), number);
+}
+
+/* A type, as the routine file spells it. */
+static inline struct emulate_bytes emulate_type(struct emulate_bytes routine, uint16_t number)
+{
+    return emulate_listed(emulate_file_body(routine, 1), number);
+}
+
+/* ---- How long a record is
+ *
+ * EMULATE_RECORD_LEAST, which is 99, and
+ *   63 for each step, and 2 for each name that it took;
+ *   16 for each variable, of which there are at most 512;
+ *   9 for each written byte, of which there are at most 4,096;
+ *   12 for each question 1 or 2, 11 and its answered bytes (at most 8) for each question 3, 17 and
+ *   14 for each argument (at most 16) for each question 4.
+ * emulate_record_most gives, before the call, a length that the record does not exceed. */
+
+/* The variables of a run. */
+#define EMULATE_VARIABLES_MOST 512
+
+/* A node of a routine file. Its span is the number of nodes that it has, with all under it. */
+#define EMULATE_SIZE_NODE 20
+#define EMULATE_AT_NODE_KIND 0   /* u8 */
+#define EMULATE_AT_NODE_FLAG 1   /* u8 */
+#define EMULATE_AT_NODE_REF 2    /* u16 */
+#define EMULATE_AT_NODE_WIDTH 4  /* u32 */
+#define EMULATE_AT_NODE_SPAN 8   /* u32 */
+#define EMULATE_AT_NODE_VALUE 12 /* u64 */
+
+/* The bytes that evaluating a node adds itself, at most: a variable that is not set asks its
+ * symbol's address, its size and 8 bytes; a load asks 8 bytes; `&x` asks an address, and its name
+ * may be taken; a call tells its arguments, which are fewer than the nodes under it. */
+static inline uint64_t emulate_node_most(const uint8_t *node)
+{
+    const uint64_t span = emulate_number(node + EMULATE_AT_NODE_SPAN, 4);
+    uint64_t arguments = span < 2 ? 0 : span - 2;
+    if (arguments > 16)
+        arguments = 16;
+    switch (node[EMULATE_AT_NODE_KIND]) {
+    case 1: /* Var */
+        return 2 * EMULATE_SIZE_TOLD + EMULATE_SIZE_READ + 8;
+    case 9: /* Deref */
+        return EMULATE_SIZE_READ + 8;
+    case 10: /* AddressOf */
+        return EMULATE_SIZE_TOLD + 2;
+    case 14: /* Call */
+        return EMULATE_SIZE_CALL + EMULATE_SIZE_VALUE * arguments;
+    }
+    return 0;
+}
+
+/* The same of a tree, the one that adds most: they stand one after another. */
+static inline uint64_t emulate_tree_most(struct emulate_bytes nodes)
+{
+    uint64_t most = 0, sum = 0, left = 0;
+    while (nodes.length >= EMULATE_SIZE_NODE) {
+        if (left == 0) {
+            left = emulate_number(nodes.first + EMULATE_AT_NODE_SPAN, 4);
+            sum = 0;
+        }
+        sum += emulate_node_most(nodes.first);
+        if (sum > most)
+            most = sum;
+        left -= left > 0;
+        nodes = emulate_after(nodes, EMULATE_SIZE_NODE);
+    }
+    return most;
+}
+
+/* A length that the record of a run of these files does not exceed, in any world; of files that
+ * `run` refuses it says nothing. It is 45,155, and for each of the call's steps 63 and what the
+ * largest tree adds: a unit evaluates one tree at most (a statement's is its own, a block's that of
+ * its terminator), and each node of it once. Where it is at most 2^32 - 1, a record buffer of that
+ * length is never too short. Most records are much shorter. */
+static inline uint64_t emulate_record_most(const uint8_t *routine, size_t routine_length,
+                                           const uint8_t *call, size_t call_length)
+{
+    struct emulate_bytes file, nodes, limits;
+    uint64_t steps;
+    file.first = routine;
+    file.length = routine_length;
+    nodes = emulate_file_body(file, 3);
+    file.first = call;
+    file.length = call_length;
+    limits = emulate_file_body(file, 0);
+    steps = limits.length < 4 ? 0 : emulate_number(limits.first, 4);
+    return EMULATE_RECORD_LEAST + EMULATE_VARIABLES_MOST * EMULATE_SIZE_VARIABLE
+        + EMULATE_ADDRESSES_MOST * EMULATE_SIZE_WRITTEN
+        + steps * (EMULATE_SIZE_STEP + emulate_tree_most(nodes));
+}
+
 /* ---- Texts (emulate_text.c): constant, in English, never NULL
  *
  * A number that is none of its sort gives "no such number". */
 
 const char *emulate_refusal_text(uint32_t number);
+const char *emulate_body_text(uint32_t body);
 const char *emulate_stop_text(uint32_t kind);
 const char *emulate_reason_text(uint32_t reason);
 const char *emulate_note_text(uint32_t note);
+const char *emulate_asked_text(uint32_t kind);
 
 #ifdef __cplusplus
 }

@@ -21,7 +21,7 @@ const char *emulate_refusal_text(uint32_t number)
         "the nodes are no trees: a span, a child count, the depth or a field's place is wrong",
         "the statements or blocks are wrong, or a root is no node or is a field",
         "the world file is wrong or too long",
-        "the call file is wrong or over its limits, or the node is none or is a field",
+        "the call file is wrong or over its limits; of constant_value: no such node, or it is a field",
     };
     static const char *const state[] = {
         "the workspace is under 65,536 bytes",
@@ -37,6 +37,14 @@ const char *emulate_refusal_text(uint32_t number)
     if (number < 30)
         return text_of(state, sizeof state / sizeof *state, number - 20);
     return text_of(nodes, sizeof nodes / sizeof *nodes, number - 30);
+}
+
+const char *emulate_body_text(uint32_t body)
+{
+    static const char *const texts[] = {
+        "stop", "counts", "steps", "variables", "memory", "questions",
+    };
+    return text_of(texts, sizeof texts / sizeof *texts, body);
 }
 
 const char *emulate_stop_text(uint32_t kind)
@@ -82,4 +90,16 @@ const char *emulate_note_text(uint32_t note)
         "not followed; its result is unknown, and so are the names that it took",
     };
     return text_of(texts, sizeof texts / sizeof *texts, note);
+}
+
+const char *emulate_asked_text(uint32_t kind)
+{
+    static const char *const texts[] = {
+        none,
+        "the address of a name",
+        "the size of a name",
+        "a read of bytes",
+        "a call of a function",
+    };
+    return text_of(texts, sizeof texts / sizeof *texts, kind);
 }

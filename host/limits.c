@@ -1,6 +1,7 @@
 /* Files as full as they may be, and with one entry more; a run of as many units as a call may ask for; as
  * many bytes of questions as the least workspace keeps, and more.
- * What is expected is written from document 01. Says which check failed and ends with 1. */
+ * What is expected is written from the specification (docs/FILES.md). Says which check failed and ends
+ * with 1. */
 #include "lending.h"
 
 /* The record of a run without steps, variables, written bytes and questions, and a step of it. */

@@ -1,6 +1,7 @@
 /* A record of 4,294,967,295 bytes is written, and one of a byte more is refused by 22. The middle of
  * the buffer is one part of a file, mapped over and over, so that it takes 66 MiB; its ends are parts
- * of their own. What is expected is written from document 01. Says which check failed and ends with 1. */
+ * of their own. What is expected is written from the specification (docs/FILES.md). Says which check
+ * failed and ends with 1. */
 #define _XOPEN_SOURCE 600
 #include <sys/mman.h>
 #include <unistd.h>

@@ -182,6 +182,71 @@ static void check_short_parts(struct emulate_bytes made)
     CHECK(emulate_after(none, 1).length == 0);
 }
 
+/* ---- Names and types of a routine file */
+
+static bool is_text(struct emulate_bytes found, const char *text)
+{
+    return found.first != NULL && found.length == strlen(text)
+        && memcmp(found.first, text, found.length) == 0;
+}
+
+/* How many names and types, from number 0 on, are there in the first `length` bytes of a file. The
+ * bytes are a copy of their own, so that a look beyond them is seen by a sanitizer or valgrind. */
+static unsigned texts_within(struct emulate_bytes whole, size_t length)
+{
+    uint8_t *bytes = malloc(length + (length == 0));
+    struct emulate_bytes part;
+    unsigned found = 0;
+    uint16_t i;
+    if (bytes == NULL)
+        exit(2);
+    memcpy(bytes, whole.first, length);
+    part.first = bytes;
+    part.length = length;
+    for (i = 0; i < 10; i++)
+        found += (emulate_name(part, i).first != NULL) + (emulate_type(part, i).first != NULL);
+    free(bytes);
+    return found;
+}
+
+/* A file of a table, the names `a` and `beta`, and the types `int` and one without letters. */
+static const uint8_t listing_two[] = {
+    6, 0, 26, 0, 7, 0, 33, 0, 5, 0, 38, 0, 0, 0, 38, 0, 0, 0, 38, 0, 0, 0, 38, 0, 0, 0,
+    1, 'a', 4, 'b', 'e', 't', 'a', 3, 'i', 'n', 't', 0
+};
+
+static void test_names(void)
+{
+    struct emulate_bytes whole = { listing_two, sizeof listing_two }, none = { NULL, 0 };
+    size_t i;
+    now = "names and types";
+    CHECK(is_text(emulate_name(whole, 0), "a") && is_text(emulate_name(whole, 1), "beta"));
+    CHECK(is_text(emulate_type(whole, 0), "int") && is_text(emulate_type(whole, 1), ""));
+    CHECK(emulate_name(whole, 2).first == NULL && emulate_name(whole, UINT16_MAX).first == NULL);
+    CHECK(emulate_type(whole, 2).first == NULL && emulate_type(whole, 2).length == 0);
+    CHECK(emulate_name(none, 0).first == NULL && emulate_type(none, 0).first == NULL);
+    for (i = 0; i <= whole.length; i++)
+        CHECK(texts_within(whole, i) == (i < 33 ? 0u : i < 38 ? 2u : 4u));
+}
+
+/* With any byte wrong nothing outside the file is looked at; a name whose letters are not all there
+ * is none. */
+static void test_faulty_names(void)
+{
+    uint8_t bytes[sizeof listing_two];
+    struct emulate_bytes faulty = { bytes, sizeof bytes };
+    size_t i;
+    now = "names and types of a faulty file";
+    for (i = 0; i < sizeof bytes; i++) {
+        memcpy(bytes, listing_two, sizeof bytes);
+        bytes[i] ^= 0xff;
+        CHECK(texts_within(faulty, sizeof bytes) <= 4);
+    }
+    memcpy(bytes, listing_two, sizeof bytes);
+    bytes[28] = 5;
+    CHECK(is_text(emulate_name(faulty, 0), "a") && emulate_name(faulty, 1).first == NULL);
+}
+
 static void test_integers(void)
 {
     const struct emulate_value values[7] = {
@@ -212,6 +277,11 @@ static bool is_refusal(uint32_t number)
     return number < 10 || (number >= 20 && number < 23) || number >= 30;
 }
 
+static bool is_question(uint32_t number)
+{
+    return number > 0;
+}
+
 /* Below `count` each number of a sort has a text of its own. */
 static void check_texts(const char *(*text)(uint32_t), uint32_t count, bool (*of_sort)(uint32_t))
 {
@@ -233,9 +303,15 @@ static void test_texts(void)
     check_texts(emulate_stop_text, 8, always);
     check_texts(emulate_reason_text, 10, always);
     check_texts(emulate_note_text, 6, always);
+    check_texts(emulate_body_text, 6, always);
+    check_texts(emulate_asked_text, 5, is_question);
     CHECK(strstr(emulate_refusal_text(5), "kind") != NULL);
     CHECK(strstr(emulate_refusal_text(30), "width") != NULL);
     CHECK(strstr(emulate_refusal_text(31), "not 0") != NULL);
+    CHECK(strstr(emulate_refusal_text(9), "call file") != NULL);
+    CHECK(strstr(emulate_refusal_text(9), "node") != NULL);
+    CHECK(strcmp(emulate_body_text(EMULATE_BODY_MEMORY), "memory") == 0);
+    CHECK(strstr(emulate_asked_text(EMULATE_ASKED_READ), "read") != NULL);
 }
 
 /* What an answer's second number is: the record's length, a node, or nothing. */
@@ -263,6 +339,8 @@ int main(void)
     check_probe_readers(made);
     check_short_parts(made);
     test_integers();
+    test_names();
+    test_faulty_names();
     test_texts();
     test_answers();
     return outcome("readers");

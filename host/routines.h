@@ -1,4 +1,5 @@
-/* The files that the test programs run, and the records that document 01 gives for them. */
+/* The files that the test programs run, and the records that the specification (docs/FILES.md) gives
+ * for them. */
 #ifndef ROUTINES_H
 #define ROUTINES_H
 
@@ -16,7 +17,7 @@ static inline void finish_files(uint32_t steps, const uint64_t *arguments, size_
     make_call(&call, steps, 8, arguments, count);
 }
 
-/* ---- Document 01's `trim`: `sum = dwell + 200` and `return sum - 50` */
+/* ---- The specification's `trim`: `sum = dwell + 200` and `return sum - 50` */
 
 enum { DWELL, SUM, TRIM };
 

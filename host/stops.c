@@ -1,5 +1,5 @@
 /* How runs stop, each stop with its fields, and runs that write many addresses. What is expected is
- * written from document 01. Says which check failed and ends with 1. */
+ * written from the specification (docs/FILES.md). Says which check failed and ends with 1. */
 #include "lending.h"
 
 /* ---- How runs stop */

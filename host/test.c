@@ -1,5 +1,5 @@
 /* Drives both entries at the edges of their promises: buffers, files, calls in a row, threads. The
- * files are made here, and what is expected is written from document 01.
+ * files are made here, and what is expected is written from the specification (docs/FILES.md).
  *
  * test [FOLDER]: says which check failed and ends with 1; with a folder it also writes the files
  * of two routines there, for the example. */

@@ -1,5 +1,6 @@
 #!/usr/bin/env python3
-"""A second reading of document 01's "The files" and "From the input", with document 02's A1, and the cases that hold the checks to it.
+"""A second reading of document 01's "The files" and "From the input", with document 02's A1, and the cases that hold the checks to it. The papers
+are not in the repository; docs/FILES.md says what is read here.
 
 It was written from the papers alone. `refusal` and `constant_refusal` give the number by which files are refused, or 0, and the number of the
 faulty node after 5, 30 and 31, else 0. The cases build each file from a description, damage it by the smallest change that breaks a sentence, and

@@ -1,12 +1,14 @@
 #!/usr/bin/env python3
 """Makes routine.bin, world.bin and call.bin from one text, and shows them as that text. docs/FORMS.md describes the text.
 
-    tools/forms.py make TEXT FOLDER     write the three files into FOLDER
-    tools/forms.py show FOLDER          print the text of the three files in FOLDER
+    tools/forms.py make TEXT FOLDER             write the three files into FOLDER; what is likely to be a slip is told on standard error
+    tools/forms.py make --strict TEXT FOLDER    the same, but write nothing where there is such a slip
+    tools/forms.py show FOLDER                  print the text of the three files in FOLDER
 
 Only accepted files are made, and only accepted files are shown: the text that is shown gives the same bytes again. For others `show` says the
 number by which a run refuses them, and the faulty node's where the number tells one.
 """
+import difflib
 import re
 import struct
 import sys
@@ -56,6 +58,10 @@ RESERVED = {"at", "case", "default", "else", "end", "false", "folded", "goto", "
 TYPE_WORDS = {"_Bool", "bool", "char", "const", "double", "enum", "float", "int", "long", "short", "signed", "struct", "union", "unsigned",
               "void", "volatile"}
 
+# the types whose width and sign a run knows, but pointers, without `const`, `volatile`, `signed` and `unsigned`
+KNOWN_TYPES = {"", "_Bool", "bool", "char", "short", "short int", "int", "long", "long int", "long long", "long long int", "int8_t", "int16_t",
+               "int32_t", "int64_t", "uint8_t", "uint16_t", "uint32_t", "uint64_t", "intptr_t", "uintptr_t", "size_t", "ssize_t"}
+
 SKIP = re.compile(r"(?:\s+|//[^\n]*|/\*.*?\*/)*", re.DOTALL)
 WORD = r"[A-Za-z_][A-Za-z0-9_]*"
 DIGITS = r"0[xX][0-9a-fA-F]+|0|[1-9][0-9]*"
@@ -68,13 +74,63 @@ QUOTED_TYPE = r'"((?:[^"\\\n]|\\.)*)"'
 BARE_TYPE = re.compile(WORD + r"(?: *\*| +" + WORD + r"|(?<=\*)" + WORD + ")*")
 BINARY_SIGN = r"<<|>>|==|!=|<=|>=|&&|\|\||[-+*/%&|^<>]"
 NUMBERED_BLOCK = re.compile(r"block_(0|[1-9][0-9]*)")
+COMPOUND_SIGN = r"(<<|>>|[-+*/%&|^])="
+# what an error shows of the text
+SHOWN = re.compile(r"[0-9]*\.[0-9]\w*|\w+|#\s*\w+|'[^'\n]*'|" + COMPOUND_SIGN + r"|\+\+|--|->|.", re.DOTALL)
+
+# What C has and the form has not, where it is met: its pattern, and what is written instead. None of them begins what can stand there.
+OPERATORS_INSTEAD = (
+    (COMPOUND_SIGN, r"for x \1= y write x = x \1 y"),
+    (r"([-+])\1(?![0-9])", r"for x\1\1 write x = x \1 1, as a statement of its own"),
+    ("->", "for s->r write *(uint16_t *)(s + 2), with r's type and its offset in bytes"),
+    (r"\.", "for s.r write *(uint16_t *)(&s + 2), with r's type and its offset in bytes"),
+    (r"\[", "for s[2] write *(uint16_t *)(s + 4), with the element's type and its offset in bytes"))
+OPERANDS_INSTEAD = (
+    (r"([-+])\1(?![0-9])", r"for \1\1x write x = x \1 1, as a statement of its own"),
+    ("[-!~]", "for -x write 0 - x, for !x write x == 0, for ~x write x ^ -1"),
+    (r"\+", "for +x write x"),
+    ('"', "the file has no letters of a text: write string"),
+    ("'", "for 'A' write its number, 65 or 65i8"),
+    (r"\.[0-9]", "there are no numbers with a point"),
+    (r"sizeof\s+[A-Za-z_]|sizeof\s*\(\s*(?:%s|\w+_t)\b" % "|".join(sorted(TYPE_WORDS)), "for sizeof write the number of bytes"),
+    ("#", "there is no preprocessor"))
+NUMBERS_INSTEAD = (
+    (r"-?[0-9]+(?:\.|[eE][-+]?[0-9])", "there are no numbers with a point"),
+    (r"-?0[0-9]", "none begins with 0, as octal ones do in C: write it decimal or hexadecimal"),
+    (r"-?(?:0[xX][0-9a-fA-F]+|[0-9]+)[uUlL]+\b", "for 5u write (uint32_t)5, for 5L write 5i64"))
+CAST_INSTEAD = ' (for a cast write a type of C, such as (uint16_t)x; one of any other name is quoted, ("%s")x, and is 64 bits wide)'
+LOOP_INSTEAD = "for a loop write a label, and goto it: if (i < 3) goto again; else goto done;"
+STATEMENTS_INSTEAD = (
+    (r"(?:for|while|do)\b", LOOP_INSTEAD),
+    (r"\{", "statements have no braces around them: a block begins with a label"),
+    (r"(?!(?:%s)\b)\w+\s+\**\w+\s*[;=,[]" % "|".join(sorted(RESERVED)), "declarations stand before the first label"),
+    (r"(?:%s|\w+_t)\b" % "|".join(sorted(TYPE_WORDS)), "declarations stand before the first label"))
+TYPES_INSTEAD = "types are not declared: a field is told by its own type and its offset where it is used"
+LOCALS_INSTEAD = (
+    (",", "one name to a declaration: int a; int b;"),
+    ("=", "a declaration has no value: write the assignment after a label"),
+    (r"\[", "there are no arrays: write a symbol of the world"))
+PARAMETERS_INSTEAD = (
+    (r"\[", "there are no arrays: write a pointer"),
+    ("=", "a parameter has no value: its argument stands in call(..)"))
+GLOBALS_INSTEAD = ((r"[;=,\[]", "there are no globals: write a symbol of the world"),)
+ENDS_INSTEAD = ((r"(%s)\s*:" % WORD, r"a block does not run on into the next: goto \1;"),)
+GOTOS_INSTEAD = (
+    (r"if\b", "for else if write else goto a label, and the second if after that label"),
+    (r"case\b", "each case has a goto of its own"),
+    ("", "what is done there stands in a block of its own, after a label"))
+CASES_INSTEAD = (
+    (r"default\b", "there is no default: a value without a case stops the run"),
+    (r"break\b", "a case is a goto, and has no break"))
+# what begins after a routine's end, and never in it
+AFTER_ROUTINE = r"(?s:world%s\{)|call\s*\([^;{}]*\)\s*(?:steps|depth)\b" % SKIP.pattern
+# the same for words that can be names, so that a text with them is taken
+NAMES_INSTEAD = {"break": "for break write goto and a label", "continue": "for continue write goto and a label", "do": LOOP_INSTEAD,
+                 "for": LOOP_INSTEAD, "while": LOOP_INSTEAD, "sizeof": "for sizeof write the number of bytes", "NULL": "for NULL write 0i64"}
 
 
 class Wrong(Exception):
-    """A text that makes no files: the line, and what was expected there."""
-
-    def __init__(self, line, message):
-        super().__init__("%d: %s" % (line, message))
+    """A text that makes no files: the line and the column, and what was expected there."""
 
 
 class Refused(Exception):
@@ -94,7 +150,8 @@ class Node:
         self.kind, self.kids, self.flag, self.ref, self.width, self.value = kind, list(kids), flag, ref, width, value
         self.span = 1 + sum(kid.span for kid in self.kids)
         self.chain = 1 + max((kid.chain for kid in self.kids), default=0)
-        self.wrapped = False
+        # of one that is read from a text: whether it stands in parentheses, and the place of a variable or of a cast's type without quotes
+        self.wrapped, self.at = False, None
 
     def all(self):
         """The node and all under it, in the file's order."""
@@ -651,15 +708,30 @@ def call_text(c):
 
 # ---- them from text
 
+def unquoted(found):
+    """What stands between the marks of a quoted name, type or file."""
+    return re.sub(r"\\(.)", r"\1", found[1])
+
+
+def close_to(word, known):
+    """A known word that is spelt much like this one, as the end of a message."""
+    found = difflib.get_close_matches(word, sorted(known), 1, 0.65)
+    return " (is '%s' meant?)" % found[0] if found else ""
+
+
 class Scanner:
     """A text, read from the first letter on. Blanks and comments are skipped after everything that is taken."""
 
     def __init__(self, source):
         self.source, self.at = source, 0
+        # the places of the '{' that are open
+        self.braces = []
         self.skip()
 
     def skip(self):
         self.at = SKIP.match(self.source, self.at).end()
+        if self.source.startswith("/*", self.at):
+            self.wrong("expected */ at the end of this comment, found the end of the text")
 
     def look(self, pattern):
         return re.compile(pattern).match(self.source, self.at)
@@ -677,32 +749,66 @@ class Scanner:
     def need(self, pattern, what):
         return self.take(pattern) or self.fail(what)
 
-    def mark(self, sign):
-        self.need(re.escape(sign), "'%s'" % sign)
+    def mark(self, sign, instead=()):
+        self.take(re.escape(sign)) or self.fail("'%s'" % sign + self.instead(instead))
+
+    def left_brace(self, instead=()):
+        self.braces.append(self.at)
+        self.mark("{", instead)
+
+    def right_brace(self):
+        """Whether a '}' stands here. It belongs to the last '{' that is open."""
+        found = self.take("}")
+        if found:
+            self.braces.pop()
+        return found
+
+    def line(self, at):
+        return self.source.count("\n", 0, at) + 1
+
+    def told(self, at, message):
+        """A message with its line and column."""
+        return "%d:%d: %s" % (self.line(at), at - self.source.rfind("\n", 0, at), message)
 
     def wrong(self, message, at=None):
-        raise Wrong(self.source.count("\n", 0, self.at if at is None else at) + 1, message)
+        raise Wrong(self.told(self.at if at is None else at, message))
 
     def fail(self, what, at=None):
         at = self.at if at is None else at
-        found = re.compile(r"[0-9A-Za-z_]+|.", re.DOTALL).match(self.source, at)
-        self.wrong("expected %s, found %s" % (what, "'%s'" % found[0] if found else "the end of the text"), at)
+        found = SHOWN.match(self.source, at)
+        shown = "'%s'" % found[0] if found else "the end of the text"
+        if self.braces and not found:
+            shown += ", and the '{' of line %d has no '}'" % self.line(self.braces[-1])
+        self.wrong("expected %s, found %s" % (what, shown), at)
+
+    def instead(self, known):
+        """What is written instead of what stands here, in parentheses, if it is one of those that are known."""
+        for pattern, text in known:
+            found = self.look(pattern)
+            if found:
+                return " (%s)" % found.expand(text)
+        return ""
+
+    def digits(self, pattern, what, told=""):
+        """A number as the pattern has it, `told` what else is said of it."""
+        instead = self.instead(NUMBERS_INSTEAD)
+        return self.fail(what + instead) if instead else self.need(pattern, what + told)
 
     def number(self, what, most):
         at = self.at
-        value = int(self.need(NUMBER, what)[1], 0)
+        value = int(self.digits(NUMBER, what)[1], 0)
         return value if value <= most else self.wrong("expected %s up to %d, found %d" % (what, most, value), at)
 
     def signed(self, what, least, most):
         at = self.at
-        sign, digits = self.need(SIGNED, what).groups()
+        sign, digits = self.digits(SIGNED, what).groups()
         value = int(sign + digits, 0)
         return value if least <= value <= most else self.wrong("expected %s from %d to %d, found %d" % (what, least, most, value), at)
 
     def name(self, what="a name"):
         at, found = self.at, self.take(QUOTED_NAME)
         if found:
-            return self.letters(re.sub(r"\\(.)", r"\1", found[1]), 1, "!", at)
+            return self.letters(unquoted(found), 1, "!", at)
         word = self.need(WORD, what)[0]
         if not is_plain_name(word):
             self.fail("%s (as a name it is written `%s`)" % (what, word), at)
@@ -730,16 +836,19 @@ class TypeScanner(Scanner):
 
     def __init__(self, source):
         super().__init__(source)
-        self.numbered = []
+        # the places of types that are told by number, and of types without quotes that something has
+        self.numbered, self.bare = [], []
 
     def type(self):
         at = self.at
+        if self.look(r"#\s*[A-Za-z]"):
+            self.fail("a type (there is no preprocessor)")
         if self.take("#"):
             self.numbered.append((at, self.number("a type's number", LAST16)))
             return self.numbered[-1][1]
         found = self.take(QUOTED_TYPE)
         if found:
-            return self.letters(re.sub(r"\\(.)", r"\1", found[1]), 0, " ", at)
+            return self.letters(unquoted(found), 0, " ", at)
         return self.bare_type(self.run_of_words() or self.fail("a type"))
 
     def listed_type(self):
@@ -756,10 +865,15 @@ class TypeScanner(Scanner):
             self.take(WORD + r"|\*")
 
     def bare_type(self, places):
-        text = self.source[places[0][0]:places[-1][1]]
+        at, text = places[0][0], self.source[places[0][0]:places[-1][1]]
         if not is_bare_type(text):
-            self.wrong("expected a type of words and stars on one line, or one in quotes, found %r" % text, places[0][0])
-        return self.letters(text, 0, " ", places[0][0])
+            self.wrong("expected a type of words and stars on one line, or one in quotes, found %r" % text, at)
+        return self.letters(text, 0, " ", at)
+
+    def had(self, kind, at):
+        """A type without quotes that a variable, a field or a cast has."""
+        self.bare.append((at, kind))
+        return kind
 
     def declaration(self):
         """A type and a name: the last word is the name."""
@@ -769,30 +883,36 @@ class TypeScanner(Scanner):
             return kind, self.name()
         places = self.run_of_words()
         if self.look("`") and places:
-            return self.bare_type(places), self.name()
+            return self.had(self.bare_type(places), at), self.name()
         if len(places) < 2:
             self.fail("a type and a name", at)
         start, end = places.pop()
         word = self.source[start:end]
         if not is_plain_name(word):
             self.fail("a name after the type", start)
-        return self.bare_type(places), self.letters(word, 1, "!", start)
+        return self.had(self.bare_type(places), at), self.letters(word, 1, "!", start)
 
     def cast(self):
-        """The type of a cast that begins here, or None."""
+        """The type of a cast that begins here, and its place if it is without quotes; or None."""
         if self.take(r'\((?=\s*["#])'):
             kind = self.type()
             self.mark(")")
-            return kind
+            return kind, None
         found = self.look(r"\(\s*(%s)\s*\)" % BARE_TYPE.pattern)
         if not found or not is_bare_cast(found[1]):
             return None
         self.take(r"\(\s*%s\s*\)" % BARE_TYPE.pattern)
-        return self.letters(found[1], 0, " ", found.start(1))
+        at = found.start(1)
+        return self.had(self.letters(found[1], 0, " ", at), at), at
 
 
 class ExpressionScanner(TypeScanner):
     """The expressions of a text."""
+
+    def __init__(self, source):
+        super().__init__(source)
+        # of each variable by its place: its name, and a kind: VAR, ADDRESS under '&', CALL in a callee's place, CAST in parentheses like a type
+        self.uses = {}
 
     def node(self, kind, kids=(), **fields):
         n = Node(kind, kids, **fields)
@@ -824,6 +944,9 @@ class ExpressionScanner(TypeScanner):
     def binary(self, level):
         left = self.unary()
         while True:
+            instead = self.instead(OPERATORS_INSTEAD)
+            if instead:
+                self.fail("an operator" + instead)
             found = self.look(BINARY_SIGN)
             if not found or LEVELS[found[0]] < level:
                 return left
@@ -834,11 +957,20 @@ class ExpressionScanner(TypeScanner):
     def unary(self):
         sign = self.take("[*&]")
         if sign:
-            return self.node(DEREF if sign[0] == "*" else ADDRESS, [self.unary()])
-        kind = self.cast()
-        if kind is not None:
-            return self.node(CAST, [self.unary()], ref=kind)
+            n = self.node(DEREF if sign[0] == "*" else ADDRESS, [self.unary()])
+            self.use(n.kids[0], n.kind)
+            return n
+        found = self.cast()
+        if found:
+            n = self.node(CAST, [self.unary()], ref=found[0])
+            n.at = found[1]
+            return n
         return self.called(self.atom())
+
+    def use(self, n, kind):
+        """Keep of a variable what it stands under."""
+        if n.kind == VAR:
+            self.uses[n.at] = n.ref, kind
 
     def called(self, n):
         at = self.at
@@ -846,6 +978,7 @@ class ExpressionScanner(TypeScanner):
             arguments = self.items(self.assignment, r"\)")
             if len(arguments) > MOST_ARGUMENTS:
                 self.wrong("expected at most %d arguments, found %d" % (MOST_ARGUMENTS, len(arguments)), at)
+            self.use(n, CAST if n.wrapped else CALL)
             n = self.node(CALL, [n] + arguments)
         return n
 
@@ -854,8 +987,8 @@ class ExpressionScanner(TypeScanner):
             return self.constant()
         if self.take(r"\("):
             return self.wrapped()
-        if self.take("{"):
-            return self.node(STRUCT, self.items(self.field, "}"))
+        if self.look("{"):
+            return self.struct()
         for kind, word in SIGNS.items():
             if self.word(word):
                 return self.node(kind)
@@ -870,27 +1003,30 @@ class ExpressionScanner(TypeScanner):
         return self.named()
 
     def named(self):
-        if self.look("[-!~]"):
-            self.fail("an operand (for -x write 0 - x, for !x write x == 0, for ~x write x ^ -1)")
-        if self.look('"'):
-            self.fail("an operand (the file has no letters of a text: write string)")
+        at, instead = self.at, self.instead(OPERANDS_INSTEAD)
+        if instead:
+            self.fail("an operand" + instead)
         name = self.name("an operand")
         if self.take("@"):
             return self.node(FUNCTION, ref=name, value=self.number("an address", LAST64))
-        return self.node(VAR, ref=name)
+        n = self.node(VAR, ref=name)
+        n.at = at
+        self.use(n, VAR)
+        return n
 
     def wrapped(self):
         n = self.expression()
         self.mark(")")
         if n.kind == VAR and self.look("[0-9A-Za-z_`]"):
-            self.fail('an operator (a cast to a type of any name is written ("%s")x)' % n.ref)
+            self.fail("an operator" + CAST_INSTEAD % n.ref)
+        if self.look("[-*&]"):
+            self.use(n, CAST)
         n.wrapped = True
         return n
 
     def sized(self):
         """A number with its width in bits, None if it has none, and its place."""
-        at = self.at
-        found = self.need(CONSTANT_NUMBER, "a number such as 200, 0xc8 or, with its width, 200i8 (to i64)")
+        at, found = self.at, self.digits(CONSTANT_NUMBER, "a number", " such as 200, 0xc8 or, with its width, 200i8 (to i64)")
         return int(found[1] + found[2], 0), found[3] and int(found[3]), at
 
     def constant(self):
@@ -911,8 +1047,17 @@ class ExpressionScanner(TypeScanner):
         self.items(one, r"\)")
         return self.node(REGISTER, flag=fields["class"], ref=fields["index"], width=fields["bits"], value=fields["position"])
 
+    def struct(self):
+        self.left_brace()
+        fields = self.items(self.field, "}")
+        self.braces.pop()
+        return self.node(STRUCT, fields)
+
     def field(self):
+        at, bare = self.at, not self.look('["#]')
         kind = self.type()
+        if bare:
+            self.had(kind, at)
         self.word("at") or self.fail("at and the field's offset")
         offset = self.number("an offset", LAST64)
         self.mark("=")
@@ -926,19 +1071,21 @@ class RoutineScanner(ExpressionScanner):
         super().__init__(source)
         self.r, self.planted, self.roots = Routine(), 0, []
         self.labels, self.targets = {}, []
+        # the places of the parameters
+        self.places = []
         # of the block that is open: how many statements it has, and whether the last one returns
         self.open, self.count, self.returned = False, 0, False
 
     def routine(self):
         start = self.at
-        self.r.result, self.r.name = self.declaration()
-        self.mark("(")
-        self.r.params = [] if self.take(r"void\s*\)") else self.items(self.declaration, r"\)")
+        self.r.result, self.r.name = self.head()
+        self.mark("(", GLOBALS_INSTEAD)
+        self.r.params = [] if self.take(r"void\s*\)") else self.items(self.parameter, r"\)")
         if len(self.r.params) > MOST_ARGUMENTS:
             self.wrong("expected at most %d parameters, found %d" % (MOST_ARGUMENTS, len(self.r.params)), start)
-        self.word("at") or self.fail("at and the routine's address")
+        self.word("at") or self.fail("at and the routine's address, as in at 0x1000")
         self.r.address = self.number("an address", LAST64)
-        self.mark("{")
+        self.left_brace()
         if self.word("names"):
             self.r.names = self.items(self.name, ";")
         if self.word("types"):
@@ -946,11 +1093,26 @@ class RoutineScanner(ExpressionScanner):
         while not self.look("}"):
             self.item()
         self.close()
-        self.mark("}")
+        self.right_brace()
         self.finish(start)
         return self.r
 
+    def head(self):
+        """A routine's type and name."""
+        if self.look(r"typedef\b[^;()]*[;{]|(?:struct|union|enum)\b[^;()]*\{"):
+            self.fail("a routine (%s)" % TYPES_INSTEAD)
+        return self.declaration()
+
+    def parameter(self):
+        self.places.append(self.at)
+        found = self.declaration()
+        if self.look(r"[\[=]"):
+            self.fail("',' or ')'" + self.instead(PARAMETERS_INSTEAD))
+        return found
+
     def item(self):
+        if self.look(AFTER_ROUTINE):
+            self.fail("'}' at the routine's end (the '{' of line %d is open)" % self.line(self.braces[-1]))
         if self.word("tree"):
             self.plant(self.expression())
             self.mark(";")
@@ -959,12 +1121,12 @@ class RoutineScanner(ExpressionScanner):
         elif self.open:
             self.statement()
         elif self.r.blocks:
-            self.fail("a label (the block before has ended), a tree or '}'")
-        elif self.look(WORD + r"\s*[=(@]") or self.look(r"(return|goto|if|switch|end)\b|[0-9(]"):
-            self.fail("a declaration, or a label before the first statement")
+            self.fail("a label (the block before has ended), a tree or '}'" + self.instead(STATEMENTS_INSTEAD))
+        elif self.look(WORD + r"\s*[=(@]") or self.look(r"(return|goto|if|switch|end)\b|do\s*\{|[0-9(*{]"):
+            self.fail("a declaration, or a label such as start: before the first statement" + self.instead(STATEMENTS_INSTEAD))
         else:
             self.r.locals.append(self.declaration())
-            self.mark(";")
+            self.mark(";", LOCALS_INSTEAD)
 
     def plant(self, tree):
         """Put a tree after the others; gives its number."""
@@ -997,7 +1159,7 @@ class RoutineScanner(ExpressionScanner):
     def close(self):
         """The end of a block that says none."""
         if self.open and not self.returned:
-            self.fail("the block's end: goto, if, switch, return or end")
+            self.fail("the block's end: goto, if, switch, return or end" + self.instead(ENDS_INSTEAD))
         if self.open:
             self.ended(End(LEAVE))
 
@@ -1022,10 +1184,23 @@ class RoutineScanner(ExpressionScanner):
             self.mark(";")
             self.ended(End(LEAVE))
         else:
-            root, tree = self.root()
-            self.need(";", "an operator or ';'")
+            root, tree = self.evaluated()
             self.r.statements.append((address, root))
             self.count, self.returned = self.count + 1, returns(tree)
+
+    def evaluated(self):
+        """A statement's root and tree. Where it is wrong and begins as one that only C has, that is told."""
+        at = self.at
+        try:
+            root, tree = self.root()
+            self.need(";", "an operator or ';'")
+        except Wrong:
+            self.at = at
+            instead = self.instead(STATEMENTS_INSTEAD)
+            if instead:
+                self.fail("a statement" + instead)
+            raise
+        return root, tree
 
     def target(self):
         """The label of a goto; its place stands for it until all labels are known."""
@@ -1034,7 +1209,7 @@ class RoutineScanner(ExpressionScanner):
         return len(self.targets) - 1
 
     def goto(self):
-        self.word("goto") or self.fail("goto")
+        self.word("goto") or self.fail("goto" + self.instead(GOTOS_INSTEAD))
         return self.target()
 
     def condition(self):
@@ -1045,14 +1220,14 @@ class RoutineScanner(ExpressionScanner):
 
     def branch(self, address):
         root, taken = self.condition(), self.goto()
-        self.word("else") or self.fail("else")
+        self.word("else") or self.fail("else (each if has one: else goto a label)")
         self.ended(End(BRANCH, address, root, taken, self.goto()))
 
     def switch(self, address):
         root, cases = self.condition(), []
-        self.mark("{")
-        while not self.take("}"):
-            self.word("case") or self.fail("case or '}' (there is no default: a value without a case stops the run)")
+        self.left_brace()
+        while not self.right_brace():
+            self.word("case") or self.fail("case or '}'" + self.instead(CASES_INSTEAD))
             value = self.signed("a number", -2 ** 63, 2 ** 63 - 1)
             self.mark(":")
             cases.append((value, self.goto()))
@@ -1073,7 +1248,7 @@ class RoutineScanner(ExpressionScanner):
         if told and int(told[1]) <= LAST32:
             return int(told[1])
         if word not in self.labels:
-            self.wrong("expected a label of this routine, found '%s'" % word, at)
+            self.wrong("expected a label of this routine, found '%s'%s" % (word, close_to(word, self.labels)), at)
         return self.labels[word]
 
     def check_words(self, start):
@@ -1094,23 +1269,28 @@ class RoutineScanner(ExpressionScanner):
 
 
 class FormScanner(RoutineScanner):
-    """A whole text."""
+    """A whole text. The files that it includes are told relative to a folder."""
+
+    def __init__(self, source, folder):
+        super().__init__(source)
+        # the places of the call and its arguments
+        self.folder, self.call_places = Path(folder), []
 
     def form(self):
         routine = self.routine()
         world = self.world() if self.word("world") else World()
-        call = self.call() if self.word("call") else Call()
+        call = self.call() if self.look(r"call\b") else Call()
         if self.at < len(self.source):
             self.fail("world, call or the end of the text")
         return routine, world, call
 
     def world(self):
         w, start = World(), self.at
-        self.mark("{")
+        self.left_brace()
         if self.word("names"):
             w.names = self.items(self.name, ";")
         places = []
-        while not self.take("}"):
+        while not self.right_brace():
             at = self.at
             if self.word("symbol"):
                 self.symbol(w, at)
@@ -1135,17 +1315,29 @@ class FormScanner(RoutineScanner):
         w.symbols.append((name, address, size))
 
     def bytes(self):
-        """Bytes of two hexadecimal digits, or numbers with their width, up to ';'."""
+        """Bytes of two hexadecimal digits, numbers with their width and files, up to ';'."""
         data = b""
         while not (data and self.take(";")):
             found = self.take("([0-9a-fA-F]{2})" + AFTER)
-            data += bytes.fromhex(found[1]) if found else self.sized_bytes()
+            data += bytes.fromhex(found[1]) if found else self.included() if self.word("include") else self.sized_bytes()
+        return data
+
+    def included(self):
+        """The bytes of a file."""
+        at, name = self.at, unquoted(self.need(QUOTED_TYPE, 'a file\'s name in quotes, as in include "lens.bin"'))
+        try:
+            with open(self.folder / name, "rb") as file:
+                data = file.read(MOST_BYTES + 1)
+        except (OSError, ValueError) as why:
+            self.wrong("expected a file that can be read, found %s: %s" % (name, getattr(why, "strerror", why)), at)
+        if not 1 <= len(data) <= MOST_BYTES:
+            self.wrong("expected a file of 1 to %d bytes, found %s with %s" % (MOST_BYTES, name, "more" if data else "none"), at)
         return data
 
     def sized_bytes(self):
         found = self.look(CONSTANT_NUMBER)
         if not found or not found[3]:
-            self.fail("a byte of two hexadecimal digits such as 0a, or a number with its width such as 10i16")
+            self.fail('a byte of two hexadecimal digits such as 0a, a number with its width such as 10i16, or include "FILE"')
         value, bits, at = self.sized()
         if not -2 ** (bits - 1) <= value < 2 ** bits:
             self.wrong("expected a number that fits in %d bits, found %d" % (bits, value), at)
@@ -1161,9 +1353,11 @@ class FormScanner(RoutineScanner):
                 self.wrong("expected bytes that end by 2^64", at)
 
     def call(self):
+        self.call_places.append(self.at)
+        self.word("call")
         start = self.at
         self.mark("(")
-        arguments = self.items(lambda: self.signed("a number", -2 ** 63, LAST64) % 2 ** 64, r"\)")
+        arguments = self.items(self.argument, r"\)")
         if len(arguments) > MOST_ARGUMENTS:
             self.wrong("expected at most %d arguments, found %d" % (MOST_ARGUMENTS, len(arguments)), start)
         steps = self.number("a number of steps", MOST_STEPS) if self.word("steps") else STEPS
@@ -1171,17 +1365,120 @@ class FormScanner(RoutineScanner):
         self.mark(";")
         return Call(steps, depth, arguments)
 
+    def argument(self):
+        self.call_places.append(self.at)
+        return self.signed("a number", -2 ** 63, LAST64) % 2 ** 64
+
+
+# ---- what is made, and is likely to be a slip
+
+def name_slip(name, kind, known):
+    """What is told of a variable that is not known."""
+    lead = "'%s' is no parameter, local or symbol: " % name
+    if name in NAMES_INSTEAD:
+        return lead + NAMES_INSTEAD[name]
+    if kind == CALL and name.startswith("__"):
+        return lead + "an intrinsic is written intrinsic %s(..)" % name
+    if kind == CALL:
+        return lead + "a function is called by its address, as in %s@0x7000(..)" % name
+    if kind == CAST:
+        return lead + "it is no cast, and unknown until it is assigned" + CAST_INSTEAD % name
+    return lead + ("its address is unknown" if kind == ADDRESS else "it is unknown until it is assigned") + close_to(name, known)
+
+
+def name_slips(scanner, routine, world):
+    """The variables that nothing tells, each at its first place."""
+    symbols = {name for name, _, _ in world.symbols}
+    known, told = symbols | {name for _, name in routine.params + routine.locals}, set()
+    for at, (name, kind) in sorted(scanner.uses.items()):
+        if name not in known and name not in told:
+            told.add(name)
+            yield at, name_slip(name, kind, known)
+
+
+def base_of(kind):
+    """A type's words without `const`, `volatile`, `signed` and `unsigned`, and the sign that they tell."""
+    words = [word for word in kind.split() if word not in ("const", "volatile")]
+    return " ".join(word for word in words if word not in ("signed", "unsigned")), "unsigned" if "unsigned" in words else "signed"
+
+
+def is_no_slip(base):
+    """Whether a type that a run takes as 64 bits is so in C, or is of no number."""
+    words = set(base.split())
+    return "*" in base or base == "void" or base.startswith(("struct ", "union ")) or words == {"int", "long"}
+
+
+def type_hint(base):
+    """What to write instead of a type whose width is not known."""
+    words, bits = set(base.split()), re.search(r"(?<![0-9])(8|16|32|64)(?![0-9])", base)
+    if words & {"float", "double"}:
+        return " (there are no numbers with a point)"
+    if words & {"auto", "extern", "inline", "static"}:
+        return " (leave out %s)" % ", ".join(sorted(words & {"auto", "extern", "inline", "static"}))
+    if words == {"int", "short"}:
+        return " (for 16 bits write short)"
+    if bits:
+        return " (for %s bits write uint%s_t or int%s_t)" % (bits[1], bits[1], bits[1])
+    if base in ("uchar", "ushort", "uint", "ulong"):
+        return " (is 'unsigned %s' meant?)" % base[1:]
+    return "" if re.search("[0-9]", base) else close_to(base, KNOWN_TYPES)
+
+
+def loaded_types(routine):
+    """The types without quotes that loads and stores through a pointer have, with the casts' places. A struct's store takes no width there."""
+    nodes = list(routine.nodes())
+    of_structs = {id(n.kids[0]) for n in nodes if n.kind == ASSIGN and n.kids[1].kind == STRUCT}
+    casts = [n.kids[0] for n in nodes if n.kind == DEREF and id(n) not in of_structs and n.kids[0].kind == CAST]
+    return [(n.at, n.ref[:-1]) for n in casts if n.at is not None and n.ref.endswith("*")]
+
+
+def type_slips(scanner, routine):
+    """The types whose width a run does not know, each at its first place."""
+    told = set()
+    for at, kind in sorted(scanner.bare + loaded_types(routine)):
+        base, sign = base_of(kind)
+        if base not in KNOWN_TYPES and base not in told and not is_no_slip(base):
+            told.add(base)
+            yield at, "the width of '%s' is not known: it is taken as 64 bits %s%s" % (base, sign, type_hint(base))
+
+
+def counted(number, what):
+    return "%d %s%s" % (number, what, "" if number == 1 else "s")
+
+
+def argument_slips(scanner, routine, call):
+    """Arguments that no parameter takes, or parameters without one."""
+    arguments, names = len(call.arguments), ["'%s'" % name for _, name in routine.params]
+    lead = counted(arguments, "argument") + " for " + counted(len(names), "parameter")
+    if arguments > len(names):
+        yield scanner.call_places[1 + len(names)], lead + ": from here on they are not used"
+    elif arguments < len(names):
+        lead = lead if scanner.call_places else "there is no call(..)"
+        missing = names[arguments:]
+        yield (scanner.call_places + scanner.places)[0], "%s: %s %s unknown" % (lead, ", ".join(missing), "is" if len(missing) == 1 else "are")
+
+
+def slips(scanner, routine, world, call):
+    """What is likely to be a slip in a text, in its order, with line and column."""
+    found = sorted([*name_slips(scanner, routine, world), *type_slips(scanner, routine), *argument_slips(scanner, routine, call)])
+    return [scanner.told(at, "warning: " + message) for at, message in found]
+
 
 # ---- the two commands
 
-def make(source):
-    """The three files of a text."""
-    scanner = FormScanner(source)
+def make_and_warn(source, folder="."):
+    """The three files of a text, and its warnings. What it includes is told relative to a folder."""
+    scanner = FormScanner(source, folder)
     try:
         routine, world, call = scanner.form()
     except RecursionError:
         scanner.wrong("expected less nesting: at most %d nodes from parent to child" % MOST_CHAIN)
-    return routine_file(routine), world_file(world), call_file(call)
+    return (routine_file(routine), world_file(world), call_file(call)), slips(scanner, routine, world, call)
+
+
+def make(source, folder="."):
+    """The three files of a text."""
+    return make_and_warn(source, folder)[0]
 
 
 def show(files):
@@ -1192,15 +1489,24 @@ def show(files):
     return text
 
 
+def make_command(text, folder, strict):
+    files, warnings = make_and_warn(Path(text).read_text(encoding="utf-8-sig", errors="replace"), Path(text).parent)
+    for warning in warnings:
+        print("%s:%s" % (text, warning), file=sys.stderr)
+    if strict and warnings:
+        sys.exit("no files are made: --strict, and %s" % counted(len(warnings), "warning"))
+    Path(folder).mkdir(parents=True, exist_ok=True)
+    for name, data in zip(FILES, files):
+        (Path(folder) / name).write_bytes(data)
+
+
 def main(arguments):
+    strict = arguments[:1] == ["make"] and "--strict" in arguments
+    arguments = [word for word in arguments if not strict or word != "--strict"]
     command = arguments[0] if arguments else ""
     try:
         if command == "make" and len(arguments) == 3:
-            files = make(Path(arguments[1]).read_text(encoding="utf-8", errors="replace"))
-            folder = Path(arguments[2])
-            folder.mkdir(parents=True, exist_ok=True)
-            for name, data in zip(FILES, files):
-                (folder / name).write_bytes(data)
+            make_command(arguments[1], arguments[2], strict)
         elif command == "show" and len(arguments) == 2:
             sys.stdout.write(show([(Path(arguments[1]) / name).read_bytes() for name in FILES]))
         else:

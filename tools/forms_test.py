@@ -18,6 +18,7 @@ from files_reference import block, call_body, file_of, head, listed, region, sta
 
 ROOT = Path(__file__).resolve().parent.parent
 LISTINGS = ROOT / "oracle/target/release/listings"
+DOCUMENT = (ROOT / "docs/FORMS.md").read_text()
 ROUTINES = 250
 DAMAGES = 4
 ORIGINALS = 400
@@ -258,7 +259,7 @@ class Normal(Case):
                 self.check_text(form.read_text())
 
     def test_the_documents_example(self):
-        self.check_text((ROOT / "docs/FORMS.md").read_text().split("```\n")[1])
+        self.check_text(DOCUMENT.split("```\n")[1])
 
     def test_world_and_call(self):
         text = HEAD + "} world { names q, `1`; symbol b at 5; symbol a at 0xff size 255; 32: 0a FF -1i16 0x1ffi16 1i24; 5: 00; 6: 7f; } call(1, -1, 0x10) depth 0;"
@@ -337,108 +338,214 @@ world
 call(1) steps 5;
 """
 
-# a place of GOOD, what stands there instead, the line, and what was expected
+LEAD = GOOD.partition("short")[0]
+
+# a place of GOOD, what stands there instead, with ^^ before what is wrong, and what was expected
 WRONG = [
-    ("int f(", "int(", 1, "expected a type and a name"),
-    ("int f(", "f(", 1, "expected a type and a name, found 'f'"),
-    ("int f(", "int int(", 1, "expected a name after the type, found 'int'"),
-    ("int f(", "int *(", 1, "expected a name after the type"),
-    ("int x)", "int x", 1, "expected ',' or ')', found 'at'"),
-    (" at 0x10", "", 2, "expected at and the routine's address, found '{'"),
-    ("0x10\n", "0x10000000000000000\n", 1, "expected an address up to 18446744073709551615"),
-    ("0x10\n", "010\n", 1, "expected an address, found '010'"),
-    ("short y;", "short y", 5, "expected ';', found 'a'"),
-    ("short y;", "y = 1;", 3, "expected a declaration, or a label before the first statement, found 'y'"),
-    ("short y;", "sh/**/ort y;", 3, "expected a type of words and stars on one line"),
-    ("short y;", "`a` y;", 3, "expected a type and a name, found '`'"),
-    ("short y;", "#3 y;", 3, "expected a type below #1, found #3"),
-    ("short y;", "types #1; short y;", 3, "expected a type's text"),
-    ("short y;", "int " + "n" * 65 + ";", 3, "expected a name of 1 to 64 letters without blanks"),
-    ("short y;", "int ``;", 3, "expected a name of 1 to 64 letters without blanks"),
-    ("short y;", "int `a b`;", 3, "expected a name of 1 to 64 letters without blanks"),
-    ("short y;", "int `\u00e4`;", 3, "expected a name of 1 to 64 letters without blanks"),
-    ("short y;", "int `a\nb`;", 3, "expected a name"),
-    ("short y;", '"%s" y;' % ("t" * 65), 3, "expected a type of at most 64 letters"),
-    ("short y;", "a" * 65 + " y;", 3, "expected a type of at most 64 letters"),
-    ("short y;", '"\t" y;', 3, "expected a type of at most 64 letters"),
-    ("a:\n", "", 5, "expected a declaration, or a label before the first statement, found 'x'"),
-    ("a:\n", "block_1:\n", 5, "expected block_0 here, found block_1"),
-    ("a:\n", "return:\n", 5, "expected a label that is not there yet, found 'return'"),
-    ("b:\n", "a:\n", 9, "expected a label that is not there yet, found 'a'"),
-    ("    goto b;\n", "", 8, "expected the block's end: goto, if, switch, return or end, found 'b'"),
-    ("goto b;", "goto c;", 7, "expected a label of this routine, found 'c'"),
-    ("goto b;", "goto block_4294967296;", 7, "expected a label of this routine"),
-    ("goto b;", "goto 1;", 7, "expected a label, found '1'"),
-    ("goto b;", "5: goto b;", 7, "expected a statement, if or switch (goto and end have no address)"),
-    ("goto b;", "goto b; x = 1;", 7, "expected a label (the block before has ended)"),
-    ("goto b;", "if (x) goto b;", 9, "expected else, found 'b'"),
-    ("goto b;", "if x goto b;", 7, "expected '(', found 'x'"),
-    ("goto b;", "switch (x) { case 1: x = 1; }", 7, "expected goto, found 'x'"),
-    ("goto b;", "switch (x) { default: goto b; }", 7, "expected case or '}' (there is no default"),
-    ("goto b;", "switch (x) { case 9223372036854775808: goto b; }", 7, "expected a number from -9223372036854775808 to 9223372036854775807"),
-    ("goto b;", "switch (x) { case y: goto b; }", 7, "expected a number, found 'y'"),
-    ("x = y;", "x = y", 7, "expected an operator or ';', found 'goto'"),
-    ("x = y;", "x = ;", 6, "expected an operand, found ';'"),
-    ("x = y;", "x = y +;", 6, "expected an operand, found ';'"),
-    ("x = y;", "x = (y;", 6, "expected ')', found ';'"),
-    ("x = y;", "x + 1 = y;", 6, "expected parentheses around the left side of '='"),
-    ("x = y;", "x ? y : x = y;", 6, "expected parentheses around the left side of '='"),
-    ("x = y;", "x ? y;", 6, "expected ':', found ';'"),
-    ("x = y;", "x = -y;", 6, "expected an operand (for -x write 0 - x"),
-    ("x = y;", "x = !y;", 6, "expected an operand (for -x write 0 - x"),
-    ("x = y;", "x = \"y\";", 6, "expected an operand (the file has no letters of a text: write string)"),
-    ("x = y;", "x = (other)y;", 6, "expected an operator (a cast to a type of any name is written (\"other\")x), found 'y'"),
-    ("x = y;", "x = return;", 6, "expected an operand (as a name it is written `return`), found 'return'"),
-    ("x = y;", "x = my_t;", 6, "expected an operand (as a name it is written `my_t`)"),
-    ("x = y;", "x = 5u;", 6, "expected a number such as 200, 0xc8 or, with its width, 200i8 (to i64), found '5u'"),
-    ("x = y;", "x = 5i9;", 6, "expected a number such as"),
-    ("x = y;", "x = 18446744073709551616;", 6, "expected a number from -2147483648 to 18446744073709551615"),
-    ("x = y;", "x = -129i8;", 6, "expected a number from -128 to"),
-    ("x = y;", "x = f@y;", 6, "expected an address, found 'y'"),
-    ("x = y;", "x(1,);", 6, "expected an operand, found ')'"),
-    ("x = y;", "x(1 2);", 6, "expected ',' or ')', found '2'"),
-    ("x = y;", "x(%s);" % ", ".join("1" * 17), 6, "expected at most 16 arguments, found 17"),
-    ("x = y;", "intrinsic x;", 6, "expected '(', found ';'"),
-    ("x = y;", "folded 1;", 6, "expected true or false, found '1'"),
-    ("x = y;", "register(size=1);", 6, "expected class, index, bits or position, found 'size'"),
-    ("x = y;", "register(class=256);", 6, "expected a number up to 255, found 256"),
-    ("x = y;", "register(index=65536);", 6, "expected a number up to 65535, found 65536"),
-    ("x = y;", "*x = { int 0 = 1 };", 6, "expected at and the field's offset, found '0'"),
-    ("x = y;", "*x = { at 0 = 1 };", 6, "expected a type, found 'at'"),
-    ("x = y;", "node 5;", 6, "expected a node of this routine that is no field, found node 5"),
-    ("x = y;", "*x = { int at 0 = 1 };\nnode 0x4;", 7, "expected a node of this routine that is no field, found node 4"),
-    ("x = y;", "x = node 0;", 6, "expected an operand (as a name it is written `node`)"),
-    ("x = y;", "*" * 64 + "x;", 6, "expected at most 64 nodes from parent to child"),
-    ("x = y;", "x" + " + x" * 64 + ";", 6, "expected at most 64 nodes from parent to child"),
-    ("x = y;", "(" * 3000 + "x" + ")" * 3000 + ";", 6, "expected less nesting"),
-    ("return x;", "x;", 11, "expected the block's end: goto, if, switch, return or end, found '}'"),
-    ("return x;\n}", "return x;\n", 14, "expected an operator or ';', found '{'"),
-    ("world", "word", 13, "expected world, call or the end of the text, found 'word'"),
-    ("symbol s at 5;", "symbol s;", 15, "expected at and the symbol's address, found ';'"),
-    ("symbol s at 5;", "symbol s at 5 size 256;", 15, "expected a size in bytes up to 255, found 256"),
-    ("symbol s at 5;", "symbol s at 5;\nsymbol s at 6;", 16, "expected a symbol that is not there yet, found s"),
-    ("symbol s at 5;", "symbols;", 15, "expected symbol, an address or '}', found 'symbols'"),
-    ("00 01;", "00 1;", 16, "expected a byte of two hexadecimal digits such as 0a, or a number with its width such as 10i16, found '1'"),
-    ("00 01;", "00 100;", 16, "expected a byte of two hexadecimal digits"),
-    ("00 01;", ";", 16, "expected a byte of two hexadecimal digits"),
-    ("00 01;", "256i8;", 16, "expected a number that fits in 8 bits, found 256"),
-    ("00 01;", "-129i8;", 16, "expected a number that fits in 8 bits, found -129"),
-    ("00 01;", "00 01;\n0x11: 02;", 17, "expected bytes that no others overlap, found 0x11 again"),
-    ("00 01;", "00 01;\n0xf: 02 03;", 16, "expected bytes that no others overlap, found 0x10 again"),
-    ("0x10: 00 01;", "0xffffffffffffffff: 00 01;", 16, "expected bytes that end by 2^64"),
-    ("call(1)", "call(%s)" % ", ".join("1" * 17), 19, "expected at most 16 arguments, found 17"),
-    ("call(1)", "call(x)", 19, "expected a number, found 'x'"),
-    ("call(1)", "call(18446744073709551616)", 19, "expected a number from"),
-    ("steps 5", "steps 1000001", 19, "expected a number of steps up to 1000000, found 1000001"),
-    ("steps 5", "depth 256", 19, "expected a depth up to 255, found 256"),
-    ("steps 5", "step 5", 19, "expected ';', found 'step'"),
-    ("steps 5;", "steps 5; call(1);", 19, "expected world, call or the end of the text, found 'call'"),
-    ("call(1) steps 5;", "/* call(1);", 19, "expected world, call or the end of the text, found '/'"),
-    ("int x)", ", ".join("int x" for _ in range(17)) + ")", 1, "expected at most 16 parameters, found 17"),
-    ("short y;", "names %s;" % ", ".join("n%d" % k for k in range(511)), 1, "expected at most 512 names, found 514"),
-    ("short y;", "types %s;" % ", ".join("t%d" % k for k in range(512)), 1, "expected at most 512 types, found 513"),
-    ("symbol s at 5;", "names %s;" % ", ".join("n%d" % k for k in range(513)), 14, "expected at most 512 names in a world"),
+    ("int f(", "^^int(", "expected a type and a name"),
+    ("int f(", "^^f(", "expected a type and a name, found 'f'"),
+    ("int f(", "int ^^int(", "expected a name after the type, found 'int'"),
+    ("int f(", "int ^^*(", "expected a name after the type"),
+    ("int x) at", "int x ^^at", "expected ',' or ')', found 'at'"),
+    (" at 0x10\n{", "\n^^{", "expected at and the routine's address, as in at 0x1000, found '{'"),
+    ("0x10\n", "^^0x10000000000000000\n", "expected an address up to 18446744073709551615"),
+    ("0x10\n", "^^010\n", "expected an address (none begins with 0, as octal ones do in C: write it decimal or hexadecimal), found '010'"),
+    ("short y;\n\na:", "short y\n\n^^a:", "expected ';', found 'a'"),
+    ("short y;", "^^y = 1;", "expected a declaration, or a label such as start: before the first statement, found 'y'"),
+    ("short y;", "^^sh/**/ort y;", "expected a type of words and stars on one line"),
+    ("short y;", "^^`a` y;", "expected a type and a name, found '`'"),
+    ("short y;", "^^#3 y;", "expected a type below #1, found #3"),
+    ("short y;", "types ^^#1; short y;", "expected a type's text"),
+    ("short y;", "int ^^" + "n" * 65 + ";", "expected a name of 1 to 64 letters without blanks"),
+    ("short y;", "int ^^``;", "expected a name of 1 to 64 letters without blanks"),
+    ("short y;", "int ^^`a b`;", "expected a name of 1 to 64 letters without blanks"),
+    ("short y;", "int ^^`\u00e4`;", "expected a name of 1 to 64 letters without blanks"),
+    ("short y;", "int ^^`a\nb`;", "expected a name"),
+    ("short y;", '^^"%s" y;' % ("t" * 65), "expected a type of at most 64 letters"),
+    ("short y;", "^^" + "a" * 65 + " y;", "expected a type of at most 64 letters"),
+    ("short y;", "^^\"\t\" y;", "expected a type of at most 64 letters"),
+    ("a:\n    x", "    ^^x", "expected a declaration, or a label such as start: before the first statement, found 'x'"),
+    ("a:\n", "^^block_1:\n", "expected block_0 here, found block_1"),
+    ("a:\n", "^^return:\n", "expected a label that is not there yet, found 'return'"),
+    ("b:\n", "^^a:\n", "expected a label that is not there yet, found 'a'"),
+    ("    goto b;\n\nb:", "^^b:",
+     "expected the block's end: goto, if, switch, return or end (a block does not run on into the next: goto b;), found 'b'"),
+    ("goto b;", "goto ^^c;", "expected a label of this routine, found 'c'"),
+    ("goto b;", "goto ^^block_4294967296;", "expected a label of this routine"),
+    ("goto b;", "goto ^^1;", "expected a label, found '1'"),
+    ("goto b;", "5: ^^goto b;", "expected a statement, if or switch (goto and end have no address)"),
+    ("goto b;", "goto b; ^^x = 1;", "expected a label (the block before has ended)"),
+    ("goto b;\n\nb:", "if (x) goto b;\n^^b:", "expected else (each if has one: else goto a label), found 'b'"),
+    ("goto b;", "if ^^x goto b;", "expected '(', found 'x'"),
+    ("goto b;", "switch (x) { case 1: ^^x = 1; }", "expected goto (what is done there stands in a block of its own, after a label), found 'x'"),
+    ("goto b;", "switch (x) { ^^default: goto b; }",
+     "expected case or '}' (there is no default: a value without a case stops the run), found 'default'"),
+    ("goto b;", "switch (x) { case ^^9223372036854775808: goto b; }", "expected a number from -9223372036854775808 to 9223372036854775807"),
+    ("goto b;", "switch (x) { case ^^y: goto b; }", "expected a number, found 'y'"),
+    ("x = y;\n    goto", "x = y\n    ^^goto", "expected an operator or ';', found 'goto'"),
+    ("x = y;", "x = ^^;", "expected an operand, found ';'"),
+    ("x = y;", "x = y +^^;", "expected an operand, found ';'"),
+    ("x = y;", "x = (y^^;", "expected ')', found ';'"),
+    ("x = y;", "^^x + 1 = y;", "expected parentheses around the left side of '='"),
+    ("x = y;", "^^x ? y : x = y;", "expected parentheses around the left side of '='"),
+    ("x = y;", "x ? y^^;", "expected ':', found ';'"),
+    ("x = y;", "x = ^^-y;", "expected an operand (for -x write 0 - x"),
+    ("x = y;", "x = ^^!y;", "expected an operand (for -x write 0 - x"),
+    ("x = y;", "x = ^^\"y\";", "expected an operand (the file has no letters of a text: write string)"),
+    ("x = y;", "x = (other)^^y;", "expected an operator (for a cast write a type of C, such as (uint16_t)x; "
+     "one of any other name is quoted, (\"other\")x, and is 64 bits wide), found 'y'"),
+    ("x = y;", "x = ^^return;", "expected an operand (as a name it is written `return`), found 'return'"),
+    ("x = y;", "x = ^^my_t;", "expected an operand (as a name it is written `my_t`)"),
+    ("x = y;", "x = ^^5u;", "expected a number (for 5u write (uint32_t)5, for 5L write 5i64), found '5u'"),
+    ("x = y;", "x = ^^5i9;", "expected a number such as"),
+    ("x = y;", "x = ^^18446744073709551616;", "expected a number from -2147483648 to 18446744073709551615"),
+    ("x = y;", "x = ^^-129i8;", "expected a number from -128 to"),
+    ("x = y;", "x = f@^^y;", "expected an address, found 'y'"),
+    ("x = y;", "x(1,^^);", "expected an operand, found ')'"),
+    ("x = y;", "x(1 ^^2);", "expected ',' or ')', found '2'"),
+    ("x = y;", "x^^(%s);" % ", ".join("1" * 17), "expected at most 16 arguments, found 17"),
+    ("x = y;", "intrinsic x^^;", "expected '(', found ';'"),
+    ("x = y;", "folded ^^1;", "expected true or false, found '1'"),
+    ("x = y;", "register(^^size=1);", "expected class, index, bits or position, found 'size'"),
+    ("x = y;", "register(class=^^256);", "expected a number up to 255, found 256"),
+    ("x = y;", "register(index=^^65536);", "expected a number up to 65535, found 65536"),
+    ("x = y;", "*x = { int ^^0 = 1 };", "expected at and the field's offset, found '0'"),
+    ("x = y;", "*x = { ^^at 0 = 1 };", "expected a type, found 'at'"),
+    ("x = y;", "^^node 5;", "expected a node of this routine that is no field, found node 5"),
+    ("x = y;", "*x = { int at 0 = 1 };\n^^node 0x4;", "expected a node of this routine that is no field, found node 4"),
+    ("x = y;", "x = ^^node 0;", "expected an operand (as a name it is written `node`)"),
+    ("x = y;", "*" * 64 + "x^^;", "expected at most 64 nodes from parent to child"),
+    ("x = y;", "x" + " + x" * 64 + "^^;", "expected at most 64 nodes from parent to child"),
+    ("return x;\n}", "x;\n^^}", "expected the block's end: goto, if, switch, return or end, found '}'"),
+    ("world", "^^word", "expected world, call or the end of the text, found 'word'"),
+    ("symbol s at 5;", "symbol s^^;", "expected at and the symbol's address, found ';'"),
+    ("symbol s at 5;", "symbol s at 5 size ^^256;", "expected a size in bytes up to 255, found 256"),
+    ("symbol s at 5;", "symbol s at 5;\n^^symbol s at 6;", "expected a symbol that is not there yet, found s"),
+    ("symbol s at 5;", "^^symbols;", "expected symbol, an address or '}', found 'symbols'"),
+    ("00 01;", "00 ^^1;",
+     "expected a byte of two hexadecimal digits such as 0a, a number with its width such as 10i16, or include \"FILE\", found '1'"),
+    ("00 01;", "00 ^^100;", "expected a byte of two hexadecimal digits"),
+    ("00 01;", "^^;", "expected a byte of two hexadecimal digits"),
+    ("00 01;", "^^256i8;", "expected a number that fits in 8 bits, found 256"),
+    ("00 01;", "^^-129i8;", "expected a number that fits in 8 bits, found -129"),
+    ("00 01;", "00 01;\n^^0x11: 02;", "expected bytes that no others overlap, found 0x11 again"),
+    ("0x10: 00 01;", "^^0x10: 00 01;\n0xf: 02 03;", "expected bytes that no others overlap, found 0x10 again"),
+    ("0x10: 00 01;", "^^0xffffffffffffffff: 00 01;", "expected bytes that end by 2^64"),
+    ("call(1)", "call^^(%s)" % ", ".join("1" * 17), "expected at most 16 arguments, found 17"),
+    ("call(1)", "call(^^x)", "expected a number, found 'x'"),
+    ("call(1)", "call(^^18446744073709551616)", "expected a number from"),
+    ("steps 5", "steps ^^1000001", "expected a number of steps up to 1000000, found 1000001"),
+    ("steps 5", "depth ^^256", "expected a depth up to 255, found 256"),
+    ("steps 5", "^^step 5", "expected ';', found 'step'"),
+    ("steps 5;", "steps 5; ^^call(1);", "expected world, call or the end of the text, found 'call'"),
+    ("call(1) steps 5;", "^^/* call(1);", "expected */ at the end of this comment, found the end of the text"),
+    ("int f(int x)", "^^int f(%s)" % ", ".join(17 * ["int x"]), "expected at most 16 parameters, found 17"),
+    (LEAD, "^^" + LEAD + "names %s;" % ", ".join("n%d" % k for k in range(511)), "expected at most 512 names, found 514"),
+    (LEAD, "^^" + LEAD + "types %s;" % ", ".join("t%d" % k for k in range(512)), "expected at most 512 types, found 514"),
+    ("{\n    symbol", "^^{\n    names %s; symbol" % ", ".join("n%d" % k for k in range(512)), "expected at most 512 names in a world"),
 ]
+
+
+LOOP = "expected a statement (for a loop write a label, and goto it: if (i < 3) goto again; else goto done;), found "
+NO_POINT = "expected a number (there are no numbers with a point), found "
+NO_OCTAL = "(none begins with 0, as octal ones do in C: write it decimal or hexadecimal), found "
+NO_STRUCT = "expected a routine (types are not declared: a field is told by its own type and its offset where it is used), found "
+ITS_BLOCK = "expected goto (what is done there stands in a block of its own, after a label), found "
+DECLARED = "expected a statement (declarations stand before the first label), found "
+
+# the same with what C has and the form has not; here the messages are whole
+ONLY_C = [
+    ("x = y;", "x ^^+= y;", "expected an operator (for x += y write x = x + y), found '+='"),
+    ("x = y;", "x^^-=y;", "expected an operator (for x -= y write x = x - y), found '-='"),
+    ("x = y;", "x ^^*= 2;", "expected an operator (for x *= y write x = x * y), found '*='"),
+    ("x = y;", "x ^^&= -1;", "expected an operator (for x &= y write x = x & y), found '&='"),
+    ("x = y;", "x ^^<<= y;", "expected an operator (for x <<= y write x = x << y), found '<<='"),
+    ("x = y;", "x = (y ^^>>= 1);", "expected an operator (for x >>= y write x = x >> y), found '>>='"),
+    ("x = y;", "x^^++;", "expected an operator (for x++ write x = x + 1, as a statement of its own), found '++'"),
+    ("x = y;", "x^^--;", "expected an operator (for x-- write x = x - 1, as a statement of its own), found '--'"),
+    ("x = y;", "y = x^^-- > 0;", "expected an operator (for x-- write x = x - 1, as a statement of its own), found '--'"),
+    ("x = y;", "^^++x;", "expected an operand (for ++x write x = x + 1, as a statement of its own), found '++'"),
+    ("x = y;", "y = ^^--x;", "expected an operand (for --x write x = x - 1, as a statement of its own), found '--'"),
+    ("x = y;", "x = y + ^^+1;", "expected an operand (for +x write x), found '+'"),
+    ("x = y;", "x = ^^+y;", "expected an operand (for +x write x), found '+'"),
+    ("x = y;", "x = ^^- -1;",
+     "expected an operand (for -x write 0 - x, for !x write x == 0, for ~x write x ^ -1), found '-'"),
+    ("x = y;", "x^^->r = y;", "expected an operator (for s->r write *(uint16_t *)(s + 2), with r's type and its offset in bytes), found '->'"),
+    ("x = y;", "y = x^^.r;", "expected an operator (for s.r write *(uint16_t *)(&s + 2), with r's type and its offset in bytes), found '.'"),
+    ("x = y;", "y = x^^[2];",
+     "expected an operator (for s[2] write *(uint16_t *)(s + 4), with the element's type and its offset in bytes), found '['"),
+    ("x = y;", "x = ^^sizeof(int);", "expected an operand (for sizeof write the number of bytes), found 'sizeof'"),
+    ("x = y;", "x = ^^sizeof (struct s *);", "expected an operand (for sizeof write the number of bytes), found 'sizeof'"),
+    ("x = y;", "x = ^^sizeof y;", "expected an operand (for sizeof write the number of bytes), found 'sizeof'"),
+    ("x = y;", "^^for (x = 0; x < 3; x++) y = x;", LOOP + "'for'"),
+    ("x = y;", "^^while (x->y) { x = y; }", LOOP + "'while'"),
+    ("x = y;", "^^while (x) x = y;", LOOP + "'while'"),
+    ("x = y;", "^^do { x = y; } while (x);", LOOP + "'do'"),
+    ("goto b;", "goto b; ^^while (x) x = y;", "expected a label (the block before has ended), a tree or '}' "
+     "(for a loop write a label, and goto it: if (i < 3) goto again; else goto done;), found 'while'"),
+    ("x = y;", "^^{ x = y; }", "expected a statement (statements have no braces around them: a block begins with a label), found '{'"),
+    ("x = y;", "^^int z = 1;", DECLARED + "'int'"),
+    ("x = y;", "^^rate_t z;", DECLARED + "'rate_t'"),
+    ("x = y;", "^^axis *z, w;", DECLARED + "'axis'"),
+    ("x = y;", "^^word z;", DECLARED + "'word'"),
+    ("x = y;", "return y ^^z;", "expected an operator or ';', found 'z'"),
+    ("x = y;", "x = ^^'A';", "expected an operand (for 'A' write its number, 65 or 65i8), found ''A''"),
+    ("x = y;", "f@1(^^\"open\");", "expected an operand (the file has no letters of a text: write string), found '\"'"),
+    ("x = y;", "x = ^^1.5;", NO_POINT + "'1.5'"),
+    ("x = y;", "x = ^^-2.;", NO_POINT + "'-'"),
+    ("x = y;", "x = ^^1e5;", NO_POINT + "'1e5'"),
+    ("x = y;", "x = ^^.5;", "expected an operand (there are no numbers with a point), found '.5'"),
+    ("x = y;", "x = ^^010;", "expected a number " + NO_OCTAL + "'010'"),
+    ("x = y;", "^^08: x = y;", "expected a number " + NO_OCTAL + "'08'"),
+    ("x = y;", "x = ^^0x10UL;", "expected a number (for 5u write (uint32_t)5, for 5L write 5i64), found '0x10UL'"),
+    ("x = y;", "x = y; ^^/* and\n more", "expected */ at the end of this comment, found the end of the text"),
+    ("x = y;", "x = y /**/ ^^/*p;", "expected */ at the end of this comment, found the end of the text"),
+    ("x = y;", "^^#define N 3", "expected an operand (there is no preprocessor), found '#define'"),
+    ("short y;", "^^# include <stdint.h>", "expected a type (there is no preprocessor), found '# include'"),
+    ("int f(", "^^#include <stdint.h>\nint f(", "expected a type (there is no preprocessor), found '#include'"),
+    ("int f(", "^^typedef int word;\nint f(", NO_STRUCT + "'typedef'"),
+    ("int f(", "^^struct axis { int r; };\nint f(", NO_STRUCT + "'struct'"),
+    ("int f(", "int limit ^^= 5;\nint f(", "expected '(' (there are no globals: write a symbol of the world), found '='"),
+    ("int x)", "int x^^[4])", "expected ',' or ')' (there are no arrays: write a pointer), found '['"),
+    ("int x)", "int x ^^= 4)", "expected ',' or ')' (a parameter has no value: its argument stands in call(..)), found '='"),
+    ("short y;", "short y^^, z;", "expected ';' (one name to a declaration: int a; int b;), found ','"),
+    ("short y;", "short y ^^= 1;", "expected ';' (a declaration has no value: write the assignment after a label), found '='"),
+    ("short y;", "short y^^[2];", "expected ';' (there are no arrays: write a symbol of the world), found '['"),
+    ("short y;", "short y; ^^while (y) y = 1;", "expected a declaration, or a label such as start: before the first statement "
+     "(for a loop write a label, and goto it: if (i < 3) goto again; else goto done;), found 'while'"),
+    ("goto b;", "if (x) ^^{ x = y; }", ITS_BLOCK + "'{'"),
+    ("goto b;", "if (x) ^^return y; else goto b;", ITS_BLOCK + "'return'"),
+    ("goto b;", "if (x) goto b; else ^^if (y) goto a; else goto b;",
+     "expected goto (for else if write else goto a label, and the second if after that label), found 'if'"),
+    ("goto b;", "switch (x) { case 1: ^^case 2: goto b; }", "expected goto (each case has a goto of its own), found 'case'"),
+    ("goto b;", "switch (x) { case 1: goto b; ^^break; }", "expected case or '}' (a case is a goto, and has no break), found 'break'"),
+    ("goto b;\n\nb:", "goto ^^start;\n\nstrat:", "expected a label of this routine, found 'start' (is 'strat' meant?)"),
+    ("00 01;\n}\n\n", "00 01;\n^^", "expected symbol, an address or '}', found 'call'"),
+    ("call(1)", "call(^^1.5)", NO_POINT + "'1.5'"),
+    ("steps 5", "steps ^^010", "expected a number of steps " + NO_OCTAL + "'010'"),
+]
+
+# texts with a '}' left out, and what is told
+OPEN = [
+    ("return x;\n}\n\nworld", "return x;\n\n^^world", "expected '}' at the routine's end (the '{' of line 2 is open), found 'world'"),
+    ("return x;\n" + GOOD.partition("return x;\n")[2], "return x;\n^^call(1) steps 5;",
+     "expected '}' at the routine's end (the '{' of line 2 is open), found 'call'"),
+    ("return x;\n" + GOOD.partition("return x;\n")[2], "return x;\n^^",
+     "expected an operand, found the end of the text, and the '{' of line 2 has no '}'"),
+    ("00 01;\n" + GOOD.partition("00 01;\n")[2], "00 01;^^",
+     "expected symbol, an address or '}', found the end of the text, and the '{' of line 14 has no '}'"),
+    ("goto b;\n" + GOOD.partition("goto b;\n")[2], "switch (x) {\n case 1: goto b;^^",
+     "expected case or '}', found the end of the text, and the '{' of line 7 has no '}'"),
+    ("goto b;\n" + GOOD.partition("goto b;\n")[2], "switch (x) { case 1: goto a; } b: *x = {\n int at 0 = {}^^",
+     "expected ',' or '}', found the end of the text, and the '{' of line 7 has no '}'"),
+    ("call(1) steps 5;\n", "call(1) steps 5^^", "expected ';', found the end of the text"),
+]
+
+
+def marked(text):
+    """A text without its ^^, and the place of that: the line and the column, counted from 1."""
+    before, _, after = text.partition("^^")
+    return before + after, "%d:%d" % (len(before.split("\n")), len(before.split("\n")[-1]) + 1)
 
 
 class Errors(Case):
@@ -448,13 +555,28 @@ class Errors(Case):
         self.check_text(GOOD.replace("x = y;", "*" * 63 + "x;"))
         self.check_text(GOOD.replace("x = y;", "x" + " + x" * 63 + ";"))
 
-    def test_each_error_tells_its_line_and_what_was_expected(self):
-        for old, new, line, message in WRONG:
+    def test_each_error_tells_its_place_and_what_was_expected(self):
+        for old, new, message in WRONG:
             with self.subTest(new[:60]):
                 self.assertIn(old, GOOD)
+                text, place = marked(GOOD.replace(old, new, 1))
                 with self.assertRaises(forms.Wrong) as caught:
-                    forms.make(GOOD.replace(old, new, 1))
-                self.assertEqual(str(caught.exception).partition(message)[:2], ("%d: " % line, message))
+                    forms.make(text)
+                self.assertEqual(str(caught.exception).partition(message)[:2], (place + ": ", message))
+
+    def test_what_to_write_instead(self):
+        for old, new, message in ONLY_C + OPEN:
+            with self.subTest(new[-60:]):
+                self.assertIn(old, GOOD)
+                text, place = marked(GOOD.replace(old, new, 1))
+                with self.assertRaises(forms.Wrong) as caught:
+                    forms.make(text)
+                self.assertEqual(str(caught.exception), place + ": " + message)
+
+    def test_deep_nesting(self):
+        with self.assertRaises(forms.Wrong) as caught:
+            forms.make(GOOD.replace("x = y;", "(" * 3000 + "x" + ")" * 3000 + ";"))
+        self.assertRegex(str(caught.exception), "^6:[0-9]+: expected less nesting: at most 64 nodes from parent to child$")
 
     def test_spoilt_texts(self):
         """A text with words left out, told twice or changed for others makes accepted files, or says its line."""
@@ -468,7 +590,7 @@ class Errors(Case):
                 self.check_text("".join(words))
                 made += 1
             except forms.Wrong as wrong:
-                self.assertRegex(str(wrong), r"^[0-9]+: expected .*")
+                self.assertRegex(str(wrong), r"^[0-9]+:[0-9]+: expected .*")
         self.assertTrue(SPOILT // 10 < made < SPOILT * 9 // 10, made)
 
     def test_files_that_would_be_too_long(self):
@@ -477,6 +599,207 @@ class Errors(Case):
             with self.assertRaises(forms.Refused) as caught:
                 forms.make(GOOD.replace(old, new, 1))
             self.assertIn("and a file has at most 65535", str(caught.exception))
+
+
+# ---- texts that are taken as before, though they look like what only C has
+
+ALIKE = [("x--1;", "x - 0xffffffff;"), ("x- -1;", "x - 0xffffffff;"), ("x&&-1;", "x && 0xffffffff;"), ("x*-1i8;", "x * 255i8;"), ("x= =y;", None),
+         ("x<=-1;", "x <= 0xffffffff;"), ("for;", "for;"), ("while(x);", "while(x);"), ("do + break + continue;", "do + break + continue;"),
+         ("sizeof(x);", "sizeof(x);"), ("include = world;", "include = world;"), ("call(1);", "call(1);"), ("steps * depth;", "steps * depth;"),
+         ("*x={};", "*x = {};"), ("{};", "{};"), ("x/ *y;", "x / *y;"), ("x /**/ / /* */ *y;", "x / *y;"), ("0xe5;", "229;"), ("0x1e;", "30;"),
+         ("static;", "static;"), ("`int`;", "`int`;")]
+
+
+class Alike(Case):
+    def test_what_looks_like_only_c(self):
+        for text, wanted in ALIKE:
+            with self.subTest(text):
+                whole = HEAD + "a: " + text + " end; }"
+                if wanted is None:
+                    self.assertRaises(forms.Wrong, forms.make, whole)
+                else:
+                    self.assertEqual(self.check_text(whole), one_block("    %s  // statement 0, node 0\n    end;\n" % wanted))
+
+    def test_names_of_the_form(self):
+        for kind in ("typedef", "struct", "enum", "world", "static"):
+            self.check_text("%s f() at 1 { a: end; }" % kind)
+        text = "int world(int call, int for) at 1 { int include; while y; a: world: call = for; end; } world { symbol do at 1; }"
+        self.assertIn("int include;\n    while y;\n\nblock_0:", self.check_text(text.replace("a: world", "world")))
+
+
+# ---- texts that make files, and are likely to have a slip
+
+UNTOLD = " is no parameter, local or symbol: "
+UNKNOWN = UNTOLD + "it is unknown until it is assigned"
+NO_CAST = UNTOLD + ("it is no cast, and unknown until it is assigned "
+                    "(for a cast write a type of C, such as (uint16_t)x; one of any other name is quoted, ")
+BY_ADDRESS = UNTOLD + "a function is called by its address, as in "
+SIGNED = "the width of '%s' is not known: it is taken as 64 bits signed"
+UNSIGNED = "the width of '%s' is not known: it is taken as 64 bits unsigned"
+OF_16_BITS = " (for 16 bits write uint16_t or int16_t)"
+NO_POINTS = " (there are no numbers with a point)"
+
+# a place of GOOD, what stands there instead, with ^^ before what is warned of, and the warning
+SLIPS = [
+    ("x = y;", "x = ^^speed;", "'speed'" + UNKNOWN),
+    ("x = y;", "^^speed = x; x = speed + speed;", "'speed'" + UNKNOWN),
+    ("x = y;", "*(int *)(^^p + 2) = y;", "'p'" + UNKNOWN),
+    ("x = y;", "x = y;\n\n  /* here */  ^^f;", "'f'" + UNKNOWN),
+    ("goto b;", "if (^^door) goto b; else goto a;", "'door'" + UNKNOWN),
+    ("goto b;", "switch (^^state) { case 1: goto b; }", "'state'" + UNKNOWN),
+    ("x = y;", "tree ^^q; x = y;", "'q'" + UNKNOWN),
+    ("x = y;", "x = ^^`a.b`;", "'a.b'" + UNKNOWN),
+    ("short y;", "names speed; short y; tree ^^speed;", "'speed'" + UNKNOWN),
+    ("short y;", "short y; int closed; tree ^^colsed;", "'colsed'" + UNKNOWN + " (is 'closed' meant?)"),
+    ("x = y;", "x = &^^p;", "'p'" + UNTOLD + "its address is unknown"),
+    ("x = y;", "f@1(&x, &(^^p));", "'p'" + UNTOLD + "its address is unknown"),
+    ("x = y;", "^^read_switch(x, &y);", "'read_switch'" + BY_ADDRESS + "read_switch@0x7000(..)"),
+    ("x = y;", "x = 1 + ^^read_switch();", "'read_switch'" + BY_ADDRESS + "read_switch@0x7000(..)"),
+    ("x = y;", "^^__builtin_unreachable();", "'__builtin_unreachable'" + UNTOLD + "an intrinsic is written intrinsic __builtin_unreachable(..)"),
+    ("x = y;", "x = ^^sizeof(y);", "'sizeof'" + UNTOLD + "for sizeof write the number of bytes"),
+    ("x = y;", "x = ^^NULL;", "'NULL'" + UNTOLD + "for NULL write 0i64"),
+    ("x = y;", "^^break;", "'break'" + UNTOLD + "for break write goto and a label"),
+    ("x = y;", "^^continue;", "'continue'" + UNTOLD + "for continue write goto and a label"),
+    ("x = y;", "^^while (x);", "'while'" + UNTOLD + "for a loop write a label, and goto it: if (i < 3) goto again; else goto done;"),
+    ("x = y;", "x = (^^word)*y;", "'word'" + NO_CAST + "(\"word\")x, and is 64 bits wide)"),
+    ("x = y;", "x = (^^word)-1;", "'word'" + NO_CAST + "(\"word\")x, and is 64 bits wide)"),
+    ("x = y;", "x = (^^word)(y);", "'word'" + NO_CAST + "(\"word\")x, and is 64 bits wide)"),
+    ("x = y;", "x = (^^word);", "'word'" + UNKNOWN),
+    ("short y;", "^^uint16 y;", SIGNED % "uint16" + OF_16_BITS),
+    ("short y;", "^^unit16_t y;", SIGNED % "unit16_t" + OF_16_BITS),
+    ("short y;", "^^const word y;", SIGNED % "word"),
+    ("short y;", "^^rate_t y; rate_t z;", SIGNED % "rate_t"),
+    ("short y;", "^^axis `y`;", SIGNED % "axis"),
+    ("short y;", "types uint16; ^^uint16 y;", SIGNED % "uint16" + OF_16_BITS),
+    ("short y;", "^^unsigned word y;", UNSIGNED % "word"),
+    ("short y;", "^^int short y;", SIGNED % "int short" + " (for 16 bits write short)"),
+    ("short y;", "^^float y;", SIGNED % "float" + NO_POINTS),
+    ("short y;", "^^long double y;", SIGNED % "long double" + NO_POINTS),
+    ("short y;", "^^enum mode y;", SIGNED % "enum mode"),
+    ("short y;", "^^static short y;", SIGNED % "static short" + " (leave out static)"),
+    ("short y;", "^^uint y;", SIGNED % "uint" + " (is 'unsigned int' meant?)"),
+    ("short y;", "^^uint24_t y;", SIGNED % "uint24_t"),
+    ("short y;", "^^shrot y;", SIGNED % "shrot" + " (is 'short' meant?)"),
+    ("int f(", "^^word f(", SIGNED % "word"),
+    ("int x)", "^^word x)", SIGNED % "word"),
+    ("x = y;", "x = (^^float)y;", SIGNED % "float" + NO_POINTS),
+    ("x = y;", "x = *(^^uint16 *)y;", SIGNED % "uint16" + OF_16_BITS),
+    ("x = y;", "x = (uint16 *)y; *(^^uint16 *)y = x; x = *(uint16 *)y;", SIGNED % "uint16" + OF_16_BITS),
+    ("x = y;", "*(^^unsigned word*)y = x;", UNSIGNED % "word"),
+    ("x = y;", "*(struct s *)y = { ^^word at 0 = x, int at 8 = x };", SIGNED % "word"),
+    ("call(1)", "^^call()", "0 arguments for 1 parameter: 'x' is unknown"),
+    ("call(1)", "call(1, ^^2)", "2 arguments for 1 parameter: from here on they are not used"),
+    ("call(1)", "call(1,\n\t^^2, 3)", "3 arguments for 1 parameter: from here on they are not used"),
+]
+
+# what is not warned of
+NO_SLIPS = [
+    ("x = y;", "x = s; s = x; x = &s; s(1); f@1(&y, &s);"), ("x = y;", "f@0x7000(x); intrinsic __builtin_unreachable(); string;"),
+    ("x = y;", "x(y); (*y)(x);"), ("x = y;", "x = (y)*x; x = (y)-1;"), ("short y;", "names speed, `a.b`; types uint16, word; short y;"),
+    ("short y;", "word *y; const word *z; word *const w;"), ("short y;", "struct axis y; union u z; const struct axis w;"),
+    ("short y;", "\"word\" y; \"uint16\" z;"), ("x = y;", "*y = { \"word\" at 0 = x, #0 at 8 = x };"), ("short y;", "types int, word; #1 y;"), ("int f(", "void f("), ("x = y;", "(void)f@1();"),
+    ("x = y;", "x = (word *)y; x = **(word **)y;"), ("x = y;", "*(word *)y = { int at 0 = x }; *y = { int at 0 = x };"),
+    ("x = y;", "x = (\"word\")y; x = *(\"word *\")y; x = *(struct axis *)y;"), ("call(1)", "call(-1)"),
+    # every type whose width document 01 tells, and what C has 64 bits of too
+    ("short y;", "short y; " + " ".join("%s v%d;" % (kind, k) for k, kind in enumerate(
+        "_Bool,bool,char,signed char,unsigned char,short,short int,unsigned short,int,unsigned,signed,long,long int,long long,unsigned long long int,"
+        "int long,long unsigned int,int8_t,int16_t,int32_t,int64_t,uint8_t,uint16_t,uint32_t,uint64_t,size_t,ssize_t,intptr_t,uintptr_t,"
+        "const volatile bool,char *,char *const,int **".split(",")))),
+]
+
+
+class Slips(Case):
+    def warnings(self, text):
+        """The warnings of a text, which makes accepted files."""
+        files, found = forms.make_and_warn(text)
+        self.assertEqual(reference.refusal(*files), reference.ACCEPTED)
+        self.assertEqual(forms.make(text), files)
+        return found
+
+    def test_each_slip_is_told_once_at_its_first_place(self):
+        for old, new, message in SLIPS:
+            with self.subTest(new):
+                self.assertIn(old, GOOD)
+                text, place = marked(GOOD.replace(old, new, 1))
+                self.assertEqual(self.warnings(text), ["%s: warning: %s" % (place, message)])
+
+    def test_what_is_no_slip(self):
+        for old, new in NO_SLIPS:
+            with self.subTest(new):
+                self.assertIn(old, GOOD)
+                self.assertEqual(self.warnings(GOOD.replace(old, new, 1)), [])
+
+    def test_slips_are_told_in_their_order(self):
+        text = GOOD.replace("short", "word").replace("int x", "int x, int z").replace("x = y;", "r = q + s;")
+        self.assertEqual([told.partition(" ")[0] for told in self.warnings(text)], ["3:5:", "6:5:", "6:9:", "19:1:"])
+        self.assertEqual(self.warnings(text)[3], "19:1: warning: 1 argument for 2 parameters: 'z' is unknown")
+
+    def test_without_a_world_or_a_call_there_is_none_in_it(self):
+        routine = GOOD.partition("world")[0].replace("x = y", "x = s").replace("int x", "int x, char *p")
+        untold, missing = "6:9: warning: 's'" + UNKNOWN, "1:7: warning: there is no call(..): 'x', 'p' are unknown"
+        self.assertEqual(self.warnings(routine), [missing, untold])
+        self.assertEqual(self.warnings(routine + "call(1, 2);"), [untold])
+        self.assertEqual(self.warnings(routine + "world { symbol s at 5; }"), [missing])
+        self.assertEqual(self.warnings(GOOD.partition("world")[0].replace("int x", "void").replace("x = y", "y").replace("return x", "return y")), [])
+
+    def test_the_examples_have_no_slips(self):
+        texts = [form.read_text() for form in ROOT.glob("examples/*/form.txt")]
+        self.assertGreaterEqual(len(texts), 5)
+        for text in texts + [DOCUMENT.split("```\n")[1]]:
+            self.assertEqual(self.warnings(text), [])
+
+    def test_the_documents_warning(self):
+        text, told = (ROOT / "examples/homing/form.txt").read_text(), re.findall("^    homing.txt:(.*)$", DOCUMENT, re.MULTILINE)
+        self.assertEqual(self.warnings(text.replace("= position +", "= posiiton +")), told)
+
+
+# ---- files that a world includes
+
+INCLUDED = "int f() at 1 { a: return 1; } world { 0x10: "
+
+
+class Included(Case):
+    def setUp(self):
+        folder = tempfile.TemporaryDirectory()
+        self.addCleanup(folder.cleanup)
+        self.folder = Path(folder.name)
+        (self.folder / "parts").mkdir()
+        for name, data in (("lens.bin", b"\x00;\xff\n"), ("parts/a \"b\".bin", b"AB"), ("none.bin", b""), ("full.bin", bytes(65535)),
+                           ("more.bin", bytes(65536)), ("most.bin", bytes(65535 - 26))):
+            (self.folder / name).write_bytes(data)
+
+    def made(self, regions):
+        """The bodies of the world that a text with these regions makes."""
+        return reference.bodies(forms.make(INCLUDED + regions + " }", self.folder)[1], 3)
+
+    def test_bytes_of_files(self):
+        self.assertEqual(self.made('include "lens.bin";')[2], region(16, b"\x00;\xff\n"))
+        self.assertEqual(self.made('01 include "parts/a \\"b\\".bin" -1i16 include "lens.bin"; 2: 07;')[2],
+                         region(2, b"\x07") + region(16, b"\x01AB\xff\xff\x00;\xff\n"))
+        self.assertEqual(self.made('include "%s";' % (self.folder / "lens.bin"))[2], region(16, b"\x00;\xff\n"))
+        self.assertEqual(self.made('include "most.bin";')[2], region(16, bytes(65535 - 26)))
+
+    def test_no_text_shows_a_file(self):
+        files = forms.make(INCLUDED + 'include "lens.bin"; }', self.folder)
+        self.assertIn("    0x10: 00 3b ff 0a;\n", forms.show(files))
+
+    def test_files_that_cannot_be_included(self):
+        for written, told in (('^^"gone.bin"', "expected a file that can be read, found gone.bin: No such file or directory"),
+                              ('^^"parts"', "expected a file that can be read, found parts: Is a directory"),
+                              ('^^"none.bin"', "expected a file of 1 to 65535 bytes, found none.bin with none"),
+                              ('^^"more.bin"', "expected a file of 1 to 65535 bytes, found more.bin with more"),
+                              ("^^lens.bin", "expected a file's name in quotes, as in include \"lens.bin\", found 'lens'")):
+            with self.subTest(written):
+                text, place = marked(INCLUDED + "00\n include %s; }" % written)
+                with self.assertRaises(forms.Wrong) as caught:
+                    forms.make(text, self.folder)
+                self.assertEqual(str(caught.exception), "%s: %s" % (place, told))
+
+    def test_bytes_that_overlap_or_are_too_many(self):
+        with self.assertRaisesRegex(forms.Wrong, "^1:%d: expected bytes that no others overlap, found 0x13 again$" % (len(INCLUDED) + 21)):
+            self.made('include "lens.bin"; 0x13: 01;')
+        with self.assertRaisesRegex(forms.Refused, "^world.bin would have 65561 bytes"):
+            self.made('include "full.bin";')
 
 
 # ---- files
@@ -743,11 +1066,35 @@ class Command(Case):
             self.assertEqual(tuple((made / name).read_bytes() for name in ("routine.bin", "world.bin", "call.bin")), forms.make(TRIM))
             self.assertEqual(self.run_tool("show", made), (0, TRIM, ""))
 
+    def test_slips(self):
+        with tempfile.TemporaryDirectory() as folder:
+            text, made = Path(folder) / "text", Path(folder) / "made"
+            text.write_text(TRIM.replace("sum -", "smu -").replace("call(100)", "call()"))
+            told = ("%s:7:12: warning: 'smu' is no parameter, local or symbol: it is unknown until it is assigned (is 'sum' meant?)\n"
+                    "%s:14:1: warning: 0 arguments for 1 parameter: 'dwell' is unknown\n" % (text, text))
+            refused = (1, "", told + "no files are made: --strict, and 2 warnings\n")
+            self.assertEqual(self.run_tool("make", "--strict", text, made), refused)
+            self.assertEqual(self.run_tool("make", text, made, "--strict"), refused)
+            self.assertFalse(made.exists())
+            self.assertEqual(self.run_tool("make", text, made), (0, "", told))
+            self.assertEqual(tuple((made / name).read_bytes() for name in forms.FILES), forms.make(text.read_text()))
+            text.write_text(TRIM)
+            self.assertEqual(self.run_tool("make", "--strict", text, made), (0, "", ""))
+            self.assertEqual(tuple((made / name).read_bytes() for name in forms.FILES), forms.make(TRIM))
+
+    def test_a_file_is_included_from_the_texts_folder(self):
+        with tempfile.TemporaryDirectory() as folder:
+            text, made = Path(folder) / "text", Path(folder) / "made"
+            (Path(folder) / "lens.bin").write_bytes(b"\x2a")
+            text.write_text(TRIM.replace("world\n{", 'world\n{ 1: include "lens.bin";'))
+            self.assertEqual(self.run_tool("make", text, made), (0, "", ""))
+            self.assertEqual((made / "world.bin").read_bytes(), file_of([b"", b"", region(1, b"\x2a")]))
+
     def test_errors(self):
         with tempfile.TemporaryDirectory() as folder:
             text = Path(folder) / "text"
-            text.write_text(TRIM.replace("sum -", "sum"))
-            self.assertEqual(self.run_tool("make", text, folder), (1, "", "%s:7: expected an operator or ';', found '50i8'\n" % text))
+            text.write_bytes(b"\xef\xbb\xbf" + TRIM.replace("sum -", "sum").replace("\n", "\r\n").encode())
+            self.assertEqual(self.run_tool("make", text, folder), (1, "", "%s:7:16: expected an operator or ';', found '50i8'\n" % text))
             self.assertEqual([path.name for path in Path(folder).iterdir()], ["text"])
             self.assertIn("routine.bin", self.run_tool("show", folder)[2])
             for name in forms.FILES:
@@ -756,10 +1103,12 @@ class Command(Case):
             (Path(folder) / "routine.bin").write_bytes(faulty_trim([(4, 4, 9)])[0])
             told = "routine.bin is no accepted file: refused 30 at node 4: there is no Constant of width 9\n"
             self.assertEqual(self.run_tool("show", folder), (1, "", told))
-            for words in ((), ("make",), ("make", text), ("show",), ("show", folder, folder), ("list", folder)):
+            for words in ((), ("make",), ("make", text), ("show",), ("show", folder, folder), ("list", folder),
+                          ("make", "--strict"), ("make", "--strict", text), ("show", "--strict", folder), ("--strict", "make", text, folder)):
                 code, out, told = self.run_tool(*words)
                 self.assertEqual((code, out), (1, ""))
                 self.assertIn("forms.py make TEXT FOLDER", told)
+                self.assertIn("forms.py make --strict TEXT FOLDER", told)
 
 
 if __name__ == "__main__":
