@@ -30,7 +30,7 @@ use Rattle.hosting.specs.declared.Short.{Short}
 use Rattle.hosting.specs.Scene.{Given, given, Scene}
 use Rattle.hosting.specs.Stands.{Stands, Shape, a_cast, an_address, a_ternary, a_binary, an_intrinsic, a_leave, a_give, KidsAt, no_kid, a_kid, Fine}
 use Rattle.hosting.specs.Ending.{ended, short, short_of, answer_end}
-use Rattle.operations.specs.Registers.{short_in, result_in, end_by, end_in}
+use Rattle.operations.specs.Registers.{short_in, result_in, end_by, end_in, how_in}
 use Rattle.operations.specs.Going.{ReadyIn, Goes}
 use Rattle.operations.specs.Steps.{Gives, Answers, AtHand}
 use Rattle.operations.specs.Asking.{Addresses}
@@ -71,6 +71,10 @@ module _ {b s r : List ℕ} {n : ℕ} {w₀ o₀ : List ℕ} {q : Bool} {w o : L
   pub short_on : {t : Tree} → q ≡ false → Stands b n t → Goes (given b s r) (λ x. eval (look x.env t)) w₀ o₀ (short (short_of (short_in w))) w o
   short_on {t} e h = fell_on q (result_in w) (short_in w) e (ev.goes t h)
 
+  -- how the run goes stays
+  pub how_on : Fine b n → how_in w ≡ how_in w₀
+  how_on f = (ev.goes f.tree f.spells).how
+
   -- what is ready after an evaluation that gave a value
   pub ready_on : ReadyIn (given b s r) w₀ → q ≡ true → Fine b n → ReadyIn (given b s r) w
   ready_on p e f = ready_after (ended_on e f.spells) p
@@ -88,6 +92,9 @@ valued_as ev e p = record { goes = λ t h. ended_as ev e p h }
 
 pub ready_valued : {b s r : List ℕ} {n : ℕ} {w₀ o₀ : List ℕ} {v : Val} {w o : List ℕ} → Valued b s r n w₀ o₀ v w o → ReadyIn (given b s r) w₀ → Fine b n → ReadyIn (given b s r) w
 ready_valued ev p f = ready_after (ev.goes _ f.spells) p
+
+pub how_valued : {b s r : List ℕ} {n : ℕ} {w₀ o₀ : List ℕ} {v : Val} {w o : List ℕ} → Valued b s r n w₀ o₀ v w o → Fine b n → how_in w ≡ how_in w₀
+how_valued ev f = (ev.goes _ f.spells).how
 
 -- the value is put in the registers
 pub at_hand_evals : {b s r : List ℕ} {n : ℕ} {w o : List ℕ} {slot : Option Val} {v : Val} {q : Bool} {w' : List ℕ} → AtHand b n w slot → slot ≡ Some v → Gives w v q w' → Evaluates b s r n w o q w' o

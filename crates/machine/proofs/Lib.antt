@@ -10,3 +10,11 @@ pub mod SiblingArgs
 pub mod SiblingFields
 pub mod Operands
 pub mod Noting
+pub mod Running
+pub mod OutcomeLaws
+pub mod StatementLaws
+pub mod TerminatorLaws
+pub mod UnitLaws
+pub mod Spending
+pub mod WalkLaws
+pub mod IndexLaws

@@ -1,6 +1,6 @@
 -- How far a loop over the operands of a Ternary or of a Binary has come: which are evaluated, and what is kept of their values. Assumes nothing.
 use Rattle.std.specs.Prelude.{Option, Some}
-use mathlib.Core.Path.{◌≡◌, refl, sym, subst}
+use mathlib.Core.Path.{◌≡◌, refl, sym, ◌∙◌, subst}
 use mathlib.Core.Bool.{Bool, true, false}
 use mathlib.Core.List.{List}
 use Prim.Native.Nat.{ℕ, ◌+◌, ◌<◌, ◌≤◌}
@@ -14,13 +14,13 @@ use Rattle.workspace.specs.Parts.{registers_part}
 use Rattle.workspace.specs.Registers.{value_at}
 use Rattle.hosting.specs.Scene.{given}
 use Rattle.hosting.specs.Stands.{Fine}
-use Rattle.operations.specs.Registers.{result_in}
+use Rattle.operations.specs.Registers.{result_in, how_in}
 use Rattle.operations.specs.Going.{ReadyIn}
 use Rattle.operations.specs.Steps.{Gives, Answers, AtHand}
 use Rattle.machine.specs.Post.{Evaluates}
 use Rattle.hosting.proofs.Shapes.{ternary_first, ternary_second, ternary_third, binary_left, binary_right}
-use Rattle.machine.proofs.Ranks.{left, first_falls, second_falls, third_falls}
-use Rattle.machine.proofs.Evaluating.{Valued, valued_at_hand, valued_as, ready_valued, ready_on, ternary_evals, ternary_short, ternary_short_second, ternary_short_third, binary_evals, binary_short, binary_short_right}
+use Rattle.machine.proofs.Ranks.{left, falls_on, first_falls, second_falls, third_falls}
+use Rattle.machine.proofs.Evaluating.{Valued, valued_at_hand, valued_as, ready_valued, how_valued, ready_on, how_on, ternary_evals, ternary_short, ternary_short_second, ternary_short_third, binary_evals, binary_short, binary_short_right}
 
 evaluated : {b s r : List ℕ} {i : ℕ} {w o : List ℕ} {p : Bool} {w' o' : List ℕ} → p ≡ true → Evaluates b s r i w o p w' o' → Evaluates b s r i w o true w' o'
 evaluated {b} {s} {r} {i} {w} {o} {p} {w'} {o'} e ev = subst (λ (q : Bool). Evaluates b s r i w o q w' o') e ev
@@ -40,10 +40,11 @@ pub record TernarySoFar (b s r : List ℕ) (n : ℕ) (w₀ o₀ : List ℕ) (k i
   pub kind : kind_of b n ≡ 11
   pub fine : Fine b n
   pub ready : ReadyIn (given b s r) w
+  pub how : how_in w ≡ how_in w₀
   pub trio : Trio b s r n w₀ o₀ k i x y w o
 
 pub ternary_start : {b s r : List ℕ} {n : ℕ} {w o : List ℕ} {x y : Val} → kind_of b n ≡ 11 → Fine b n → ReadyIn (given b s r) w → TernarySoFar b s r n w o 0 (n + 1) x y w o
-ternary_start e f p = record { kind = e; fine = f; ready = p; trio = no_operand }
+ternary_start e f p = record { kind = e; fine = f; ready = p; how = refl; trio = no_operand }
 
 module _ {b s r : List ℕ} {n : ℕ} {w₀ o₀ : List ℕ} where
   trio_fine : {k i : ℕ} {x y : Val} {w o : List ℕ} → Trio b s r n w₀ o₀ k i x y w o → k < 3 → kind_of b n ≡ 11 → Fine b n → Fine b i
@@ -52,10 +53,10 @@ module _ {b s r : List ℕ} {n : ℕ} {w₀ o₀ : List ℕ} where
   trio_fine (two_operands ea eb) ne e f = ternary_third e f refl refl
   trio_fine (all_operands ea eb ec) ne e f = absurd (omega (arith, ne))
 
-  trio_falls : {k i : ℕ} {x y : Val} {w o : List ℕ} {t : ℕ} → Trio b s r n w₀ o₀ k i x y w o → k < 3 → left b n 0 ≡ t → Fine b n → left b i 3 < t
-  trio_falls no_operand ne e f = first_falls b n 0 3 e f (omega arith)
-  trio_falls (one_operand ea) ne e f = second_falls b n 0 3 e f refl (omega arith)
-  trio_falls (two_operands ea eb) ne e f = third_falls b n 0 3 e f refl refl (omega arith)
+  trio_falls : {k i : ℕ} {x y : Val} {w o : List ℕ} {t : ℕ} → Trio b s r n w₀ o₀ k i x y w o → k < 3 → left w₀ b n 0 ≡ t → Fine b n → left w₀ b i 3 < t
+  trio_falls no_operand ne e f = first_falls w₀ b n 0 3 e f (omega arith)
+  trio_falls (one_operand ea) ne e f = second_falls w₀ b n 0 3 e f refl (omega arith)
+  trio_falls (two_operands ea eb) ne e f = third_falls w₀ b n 0 3 e f refl refl (omega arith)
   trio_falls (all_operands ea eb ec) ne e f = absurd (omega (arith, ne))
 
   trio_on : {k i : ℕ} {x y : Val} {w o w' o' : List ℕ} → Trio b s r n w₀ o₀ k i x y w o → k < 3 → Evaluates b s r i w o true w' o'
@@ -87,8 +88,8 @@ module _ {b s r : List ℕ} {n : ℕ} {w₀ o₀ : List ℕ} {k i : ℕ} {x y : 
     pub ternary_fine : Fine b i
     ternary_fine = trio_fine z.trio ne z.kind z.fine
 
-    pub ternary_falls : {t : ℕ} → left b n 0 ≡ t → left b i 3 < t
-    ternary_falls e = trio_falls z.trio ne e z.fine
+    pub ternary_falls : {t : ℕ} → left w₀ b n 0 ≡ t → left w b i 3 < t
+    ternary_falls e = falls_on w₀ w b i 3 z.how (trio_falls z.trio ne e z.fine)
 
     module _ {p : Bool} {w' o' : List ℕ} (ev : Evaluates b s r i w o p w' o') where
       pub ternary_stopped : p ≡ false → Evaluates b s r n w₀ o₀ false w' o'
@@ -100,6 +101,7 @@ module _ {b s r : List ℕ} {n : ℕ} {w₀ o₀ : List ℕ} {k i : ℕ} {x y : 
         kind = z.kind;
         fine = z.fine;
         ready = ready_on ev z.ready ep ternary_fine;
+        how = how_on ev ternary_fine ∙ z.how;
         trio = subst (λ (j : ℕ). Trio b s r n w₀ o₀ (k + 1) j y v w' o') (sym em) (subst (λ (u : Val). Trio b s r n w₀ o₀ (k + 1) (next b i) y u w' o') (sym e) (trio_on z.trio ne (evaluated ep ev)));
       }
 
@@ -115,10 +117,11 @@ pub record BinarySoFar (b s r : List ℕ) (n : ℕ) (w₀ o₀ : List ℕ) (k i 
   pub kind : kind_of b n ≡ 12
   pub fine : Fine b n
   pub ready : ReadyIn (given b s r) w
+  pub how : how_in w ≡ how_in w₀
   pub duo : Duo b s r n w₀ o₀ k i x y w o
 
 pub binary_start : {b s r : List ℕ} {n : ℕ} {w o : List ℕ} {x y : Val} → kind_of b n ≡ 12 → Fine b n → ReadyIn (given b s r) w → BinarySoFar b s r n w o 0 (n + 1) x y w o
-binary_start e f p = record { kind = e; fine = f; ready = p; duo = at_left }
+binary_start e f p = record { kind = e; fine = f; ready = p; how = refl; duo = at_left }
 
 module _ {b s r : List ℕ} {n : ℕ} {w₀ o₀ : List ℕ} where
   duo_fine : {k i : ℕ} {x y : Val} {w o : List ℕ} → Duo b s r n w₀ o₀ k i x y w o → k < 2 → kind_of b n ≡ 12 → Fine b n → Fine b i
@@ -126,9 +129,9 @@ module _ {b s r : List ℕ} {n : ℕ} {w₀ o₀ : List ℕ} where
   duo_fine (at_right ea) ne e f = binary_right e f refl
   duo_fine (past_both ea eb) ne e f = absurd (omega (arith, ne))
 
-  duo_falls : {k i : ℕ} {x y : Val} {w o : List ℕ} {t : ℕ} → Duo b s r n w₀ o₀ k i x y w o → k < 2 → left b n 0 ≡ t → Fine b n → left b i 3 < t
-  duo_falls at_left ne e f = first_falls b n 0 3 e f (omega arith)
-  duo_falls (at_right ea) ne e f = second_falls b n 0 3 e f refl (omega arith)
+  duo_falls : {k i : ℕ} {x y : Val} {w o : List ℕ} {t : ℕ} → Duo b s r n w₀ o₀ k i x y w o → k < 2 → left w₀ b n 0 ≡ t → Fine b n → left w₀ b i 3 < t
+  duo_falls at_left ne e f = first_falls w₀ b n 0 3 e f (omega arith)
+  duo_falls (at_right ea) ne e f = second_falls w₀ b n 0 3 e f refl (omega arith)
   duo_falls (past_both ea eb) ne e f = absurd (omega (arith, ne))
 
   duo_short : {k i : ℕ} {x y : Val} {w o : List ℕ} {p : Bool} {w' o' : List ℕ} → Duo b s r n w₀ o₀ k i x y w o → k < 2 → kind_of b n ≡ 12
@@ -157,8 +160,8 @@ module _ {b s r : List ℕ} {n : ℕ} {w₀ o₀ : List ℕ} {k i : ℕ} {x y : 
     pub binary_fine : Fine b i
     binary_fine = duo_fine z.duo ne z.kind z.fine
 
-    pub binary_falls : {t : ℕ} → left b n 0 ≡ t → left b i 3 < t
-    binary_falls e = duo_falls z.duo ne e z.fine
+    pub binary_falls : {t : ℕ} → left w₀ b n 0 ≡ t → left w b i 3 < t
+    binary_falls e = falls_on w₀ w b i 3 z.how (duo_falls z.duo ne e z.fine)
 
     pub binary_stopped : {p : Bool} {w' o' : List ℕ} → Evaluates b s r i w o p w' o' → p ≡ false → Evaluates b s r n w₀ o₀ false w' o'
     binary_stopped ev ep = duo_short z.duo ne z.kind ev ep
@@ -169,6 +172,7 @@ module _ {b s r : List ℕ} {n : ℕ} {w₀ o₀ : List ℕ} {k i : ℕ} {x y : 
       kind = z.kind;
       fine = z.fine;
       ready = ready_valued ev z.ready binary_fine;
+      how = how_valued ev binary_fine ∙ z.how;
       duo = subst (λ (j : ℕ). Duo b s r n w₀ o₀ (k + 1) j y v w' o') (sym em) (duo_on z.duo ne ev);
     }
 

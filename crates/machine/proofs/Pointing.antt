@@ -62,7 +62,7 @@ pointee_told g w n x m l ts = points_pick (eqb (kind_of g.nodes n) 8) (get_or x.
 -- ---- the node that is evaluated
 
 -- the target of the node before it is evaluated
-pub target_falls : (b : List ℕ) (n k : ℕ) {t : ℕ} {w : List ℕ} {p : Target} → left b n 0 ≡ t → Fine b n → Targets b w (n + 1) p → k ≤ 4 → left b p.node k < t
+pub target_falls : (b : List ℕ) (n k : ℕ) {t : ℕ} {w : List ℕ} {p : Target} → left w b n 0 ≡ t → Fine b n → Targets b w (n + 1) p → k ≤ 4 → left w b p.node k < t
 unfolding left
 target_falls b n k e f q h = let z = target_past q in let i = f.inside in omega (arith, e, z, i.some, i.fits, h)
 

@@ -15,13 +15,14 @@ use Rattle.workspace.specs.Parts.{registers_part}
 use Rattle.workspace.specs.Registers.{value_at}
 use Rattle.hosting.specs.Scene.{given}
 use Rattle.hosting.specs.Stands.{FineArgs}
-use Rattle.operations.specs.Registers.{short_in, result_in}
+use Rattle.operations.specs.Registers.{short_in, result_in, how_in}
 use Rattle.operations.specs.Going.{ReadyIn}
 use Rattle.machine.specs.Post.{Evaluates, EvaluatesArgs}
 use Rattle.operations.specs.Taking.{PutsVal}
 use Rattle.hosting.proofs.Shapes.{arg_here, args_more, args_few}
 use Rattle.operations.proofs.Going.{told, ready_after, by_true}
 use Rattle.machine.proofs.Ranks.{next_past}
+use Rattle.machine.proofs.Evaluating.{how_on}
 use Rattle.machine.proofs.Siblings.{kid_within}
 use Rattle.machine.proofs.Calling.{more, args_end, args_evals, args_short, args_told, more_none, more_one}
 
@@ -29,12 +30,13 @@ use Rattle.machine.proofs.Calling.{more, args_end, args_evals, args_short, args_
 pub record ArgsSoFar (b s r : List ℕ) (n e : ℕ) (w₀ o₀ vals₀ : List ℕ) (i j : ℕ) (w o vals : List ℕ) : Type 0 where
   pub past : n ≤ i
   pub ready : ReadyIn (given b s r) w
+  pub how : how_in w ≡ how_in w₀
   pub fine : FineArgs b i e j
   pub long : length vals ≡ 224
   pub rest : (p : Option ℕ) {vals' w' o' : List ℕ} → EvaluatesArgs b s r i e j w o p vals vals' w' o' → EvaluatesArgs b s r n e 0 w₀ o₀ (more j p) vals₀ vals' w' o'
 
 pub args_start : {b s r : List ℕ} {n e : ℕ} {w o vals : List ℕ} → ReadyIn (given b s r) w → FineArgs b n e 0 → length vals ≡ 224 → ArgsSoFar b s r n e w o vals n 0 w o vals
-args_start p f l = record { past = le_refl _; ready = p; fine = f; long = l; rest = λ p x. args_told (sym (more_none p)) x }
+args_start p f l = record { past = le_refl _; ready = p; how = refl; fine = f; long = l; rest = λ p x. args_told (sym (more_none p)) x }
 
 module _ {b s r : List ℕ} {n e : ℕ} {w₀ o₀ vals₀ : List ℕ} {i j : ℕ} {w o vals : List ℕ} (so : ArgsSoFar b s r n e w₀ o₀ vals₀ i j w o vals) where
   pub args_done : e ≤ i → EvaluatesArgs b s r n e 0 w₀ o₀ (Some j) vals₀ vals w o
@@ -57,6 +59,7 @@ module _ {b s r : List ℕ} {n e : ℕ} {w₀ o₀ vals₀ : List ℕ} {i j : �
       args_next {v = v} {vals' = vals'} eq em ev' put = record {
         past = omega (arith, so.past, next_past (arg_here ne so.fine) em);
         ready = arg_ready eq;
+        how = how_on ev (arg_here ne so.fine) ∙ so.how;
         fine = args_more ne so.fine em;
         long = ap length put.bytes ∙ length-sets vals (j * value_size) (val_bytes v) ∙ so.long;
         rest = λ p x. args_told (more_one j p)

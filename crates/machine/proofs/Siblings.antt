@@ -1,6 +1,6 @@
 -- How far a loop over trees side by side has come: what is still to be done gives the whole. Assumes nothing.
 use Rattle.std.specs.Prelude.{Option, None, Some, is_some}
-use mathlib.Core.Path.{◌≡◌, refl}
+use mathlib.Core.Path.{◌≡◌, refl, ◌∙◌}
 use mathlib.Core.Bool.{Bool, true, false}
 use mathlib.Core.List.{List}
 use Prim.Native.Nat.{ℕ, ◌≤◌}
@@ -12,17 +12,19 @@ use Rattle.files.specs.Spells.{next}
 use Rattle.definition.specs.Term.{nothing}
 use Rattle.hosting.specs.Scene.{given}
 use Rattle.hosting.specs.Stands.{KidsAt, no_kid, a_kid, FineKids}
+use Rattle.operations.specs.Registers.{how_in}
 use Rattle.operations.specs.Going.{ReadyIn}
 use Rattle.operations.specs.Steps.{Gives, AtHand}
 use Rattle.machine.specs.Post.{Evaluates, EvaluatesKids}
 use Rattle.hosting.proofs.Shapes.{kid_here, kids_more}
 use Rattle.machine.proofs.Ranks.{next_past}
-use Rattle.machine.proofs.Evaluating.{Valued, valued_at_hand, valued_as, ready_valued, kids_end, kids_evals, kids_short}
+use Rattle.machine.proofs.Evaluating.{Valued, valued_at_hand, valued_as, ready_valued, how_valued, kids_end, kids_evals, kids_short}
 
 -- trees, from node n up to node e: the loop is at node i, with these bytes
 pub record KidsSoFar (b s r : List ℕ) (n e : ℕ) (w₀ o₀ : List ℕ) (i : ℕ) (w o : List ℕ) : Type 0 where
   pub past : n ≤ i
   pub ready : ReadyIn (given b s r) w
+  pub how : how_in w ≡ how_in w₀
   pub fine : FineKids b i e
   pub rest : {q : Bool} {w' o' : List ℕ} → EvaluatesKids b s r i e w o q w' o' → EvaluatesKids b s r n e w₀ o₀ q w' o'
 
@@ -31,7 +33,7 @@ kid_within no_kid = le_refl _
 kid_within (a_kid lt h k) = omega (arith, lt)
 
 pub kids_start : {b s r : List ℕ} {n e : ℕ} {w o : List ℕ} → ReadyIn (given b s r) w → FineKids b n e → KidsSoFar b s r n e w o n w o
-kids_start p f = record { past = le_refl _; ready = p; fine = f; rest = λ k. k }
+kids_start p f = record { past = le_refl _; ready = p; how = refl; fine = f; rest = λ k. k }
 
 module _ {b s r : List ℕ} {n e : ℕ} {w₀ o₀ : List ℕ} {i : ℕ} {w o : List ℕ} (z : KidsSoFar b s r n e w₀ o₀ i w o) where
   pub kids_done : {q : Bool} {w' : List ℕ} → e ≤ i → Gives w nothing q w' → EvaluatesKids b s r n e w₀ o₀ q w' o
@@ -42,6 +44,7 @@ module _ {b s r : List ℕ} {n e : ℕ} {w₀ o₀ : List ℕ} {i : ℕ} {w o : 
     kids_on ev em = record {
       past = omega (arith, z.past, next_past (kid_here ne z.fine) em);
       ready = ready_valued ev z.ready (kid_here ne z.fine);
+      how = how_valued ev (kid_here ne z.fine) ∙ z.how;
       fine = kids_more ne z.fine em;
       rest = λ k. z.rest (kids_evals ne ev em k);
     }

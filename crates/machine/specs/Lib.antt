@@ -1,1 +1,4 @@
 pub mod Post
+pub mod Statements
+pub mod Spots
+pub mod Walk

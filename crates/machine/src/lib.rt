@@ -1,4 +1,5 @@
-// The machine: the cycle of calls that evaluates and executes a routine's nodes in a lent workspace, with what they ask written to a lent part.
+// The machine: the cycle of calls that evaluates and executes a routine's nodes in a lent workspace, with what they ask written to a lent part, and the walk over
+// its statements and blocks, which evaluates by it. What of both evaluates nothing stands in `operations` and in `outcomes`.
 // Results go on in the workspace's registers: a member gives Some where there is one, None where it ends short, which `?` hands on.
 // From sibling to sibling a member goes by a loop: the stack grows with a tree's depth alone.
 // What is only read goes from member to member by one reference, a word: by value it would take six, and room for them in each caller's frame.
@@ -14,6 +15,10 @@ ghost use Rattle.operations.specs.Registers.{result_in};
 ghost use Rattle.hosting.specs.Scene.{given_in};
 ghost use Rattle.operations.specs.Going.{ReadyIn};
 ghost use Rattle.machine.specs.Post.{reading, ReadyBy, Evals, Executes, Evaluates, Assigns, EvaluatesKids, EvaluatesArgs, AssignsVal, AssignsStruct, StoresStruct, StoresFields};
+
+mod statements;
+mod terminators;
+pub mod walk;
 
 use files::kinds::Kind;
 use files::nodes;
@@ -40,7 +45,7 @@ pub fn eval(reads: &Reads, ws: &mut [u8], out: &mut [u8], n: usize) -> Result<Va
 
 // What a statement that is the expression at node n does.
 #[tactic(auto, using(hosting::proofs::Shapes::room, crate::proofs::Room::room_after, crate::proofs::Noting::gives_executes, files::proofs::KindLaws::of_kind))]
-pub fn execute(reads: &Reads, ws: &mut [u8], out: &mut [u8], n: usize) -> Result<Did, Short>
+fn execute(reads: &Reads, ws: &mut [u8], out: &mut [u8], n: usize) -> Result<Did, Short>
     requires ready_in { ReadyIn (given_in reads.now) ws.old }
     requires fine { Fine reads.now.nodes.now n }
     ensures { reading reads.now Executes n ws.old out.old result ws.new out.new }

@@ -41,7 +41,7 @@ use Rattle.hosting.specs.Walking.{stop_end, WalksAll}
 use Rattle.hosting.specs.Setting.{how_of, given_of, scene_of, Tabled, Started, Finished}
 use Rattle.hosting.proofs.Running.{kept_on}
 use Rattle.setup.specs.Heads.{Typed}
-use Rattle.walk.specs.Units.{Balanced}
+use Rattle.outcomes.specs.Units.{Balanced}
 use Rattle.passes.specs.Passing.{start_counts, BesideIf, Passed, PassedIf, Passes, walked_of, out_of, WalksOf, full_of}
 use Rattle.passes.proofs.Simulation.{Like, ends_alike}
 use Rattle.passes.proofs.Streams.{questions_short}

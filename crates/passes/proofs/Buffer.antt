@@ -21,7 +21,7 @@ use Rattle.stream.specs.declared.Lengths.{Lengths}
 use Rattle.stream.specs.Bodies.{stop_size, counts_size, stop_place, counts_place, steps_place, stop_bytes, stop_from, pairs_of, lengths_of}
 use Rattle.definition.proofs.Record.{stop_length, counts_length}
 use Rattle.hosting.specs.declared.Stop.{Stop}
-use Rattle.statements.specs.Telling.{Tells}
+use Rattle.outcomes.specs.Telling.{Tells}
 use Rattle.passes.specs.Writing.{PutsStop}
 
 -- ---- at the front of a part

@@ -54,7 +54,7 @@ pub fn put_stop(buffer: &mut [u8], stop: Stop, limit: u64)
     requires { steps_place ≤ length buffer.old }
     ensures { PutsStop limit stop buffer.old buffer.new }
 {
-    let piece = statements::stops::stop_piece(stop, limit);
+    let piece = outcomes::stops::stop_piece(stop, limit);
     stream::stop(&mut buffer[STOP_PLACE..COUNTS_PLACE], piece);
 }
 

@@ -24,7 +24,7 @@ ghost use Rattle.passes.specs.Accepted.{ran_of, steps_of};
 use accepted::Accepted;
 use files::call::Limits;
 use hosting::{Counts, How, Indexed, Reads, Short, Stop, Tally, Walked};
-use statements::Bodies;
+use outcomes::Bodies;
 use stream::{Lengths, STEPS_PLACE};
 use workspace::QUESTIONS;
 
@@ -74,7 +74,7 @@ fn walk_from(
     };
     let facts = index.facts;
     let at = no_counts(limits.steps as u64);
-    walk::walk(&bodies, ws, out, how, facts, at)
+    machine::walk::walk(&bodies, ws, out, how, facts, at)
 }
 
 // The walk with the variables that it starts with.

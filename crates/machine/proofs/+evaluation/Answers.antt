@@ -4,10 +4,10 @@ use Rattle.files.specs.declared.kinds.Kind.TheVariants.{Constant, Register, Stri
 use Rattle.files.proofs.KindLaws.{of_kind, no_such, found, plain_past, none_above}
 use Rattle.machine.proofs.Assigning.{val_fails, val_executes, odd_assigns, store_fails, store_assigns}
 use Rattle.machine.proofs.Calling.{args_ready}
-use Rattle.machine.proofs.Evaluating.{ready_on, alone, constant_evals, register_evals, string_evals, function_evals, true_evals, false_evals, decided_evals, struct_evals, last_evals, at_hand_evals}
+use Rattle.machine.proofs.Evaluating.{ready_on, how_on, alone, constant_evals, register_evals, string_evals, function_evals, true_evals, false_evals, decided_evals, struct_evals, last_evals, at_hand_evals}
 use Rattle.machine.proofs.Operands.{ternary_next}
 use Rattle.machine.proofs.Pointing.{deref_ready, target_narrow}
-use Rattle.machine.proofs.Ranks.{here_falls, right_falls, field_falls}
+use Rattle.machine.proofs.Ranks.{falls_on, here_falls, first_falls, right_falls, field_falls}
 use Rattle.machine.proofs.Room.{room_in}
 use Rattle.machine.proofs.SiblingArgs.{args_start, args_stopped, args_room, args_next, args_done}
 use Rattle.machine.proofs.SiblingFields.{fields_start, fields_stopped, field_stopped, fields_next, fields_done}
@@ -27,7 +27,7 @@ pub args-loop-i-init : goal.args-loop-i-init
 args-loop-i-init t c = rw (c.into_iter-i-iterator.ensures.into_iter_gives, c.new-i-items.ensures) (search (rules, args_start, row_of_kids))
 
 pub args-evaluate-requires : goal.args-evaluate-requires
-args-evaluate-requires t c = (here_falls _ _ c.decreases (over_at c.loop-i.invariant.0 c.in-Some.ensures.steps).past, ((c.loop-i.invariant.0.here.ready, c.requires.ready_by.1), arg_here (over_more c.loop-i.invariant.0 c.in-Some.ensures.steps) (over_at c.loop-i.invariant.0 c.in-Some.ensures.steps).fine))
+args-evaluate-requires t c = (falls_on _ _ _ _ _ c.loop-i.invariant.0.here.how (here_falls _ _ _ c.decreases (over_at c.loop-i.invariant.0 c.in-Some.ensures.steps).past), ((c.loop-i.invariant.0.here.ready, c.requires.ready_by.1), arg_here (over_more c.loop-i.invariant.0 c.in-Some.ensures.steps) (over_at c.loop-i.invariant.0 c.in-Some.ensures.steps).fine))
 
 pub args-returns-in_err-evaluate : goal.args-returns-in_err-evaluate
 args-returns-in_err-evaluate t c = rw c.from_residual.ensures (args_stopped (over_at c.loop-i.invariant.0 c.in-Some.ensures.steps) (over_more c.loop-i.invariant.0 c.in-Some.ensures.steps) c.evaluate.ensures.0 (ap is_some c.in_err-evaluate.was))
@@ -51,6 +51,11 @@ assign-next-right-requires t c = search (rules, room, assign_left)
 pub assign-is-requires : goal.assign-is-requires
 assign-is-requires t c = search (rules, room, assign_right)
 
+pub assign-assign_val-requires : goal.assign-assign_val-requires
+assign-assign_val-requires t c =
+    let f = assign_right c.requires.of_kind c.requires.fine c.next-right.ensures in
+    (falls_on _ _ _ _ _ (how_on c.operand.ensures f) (first_falls _ _ _ 0 0 c.decreases c.requires.fine (omega arith)), ((ready_on c.operand.ensures c.requires.ready_by.0 (ap is_some c.in_ok-operand.was) f, c.requires.ready_by.1), assign_left c.requires.of_kind c.requires.fine))
+
 pub assign-returns-in_err-operand : goal.assign-returns-in_err-operand
 assign-returns-in_err-operand t c = rw c.from_residual.ensures (val_fails c.requires.of_kind c.next-right.ensures refl (no_such c.is.ensures c.if-is.false) c.operand.ensures (ap is_some c.in_err-operand.was))
 
@@ -64,7 +69,9 @@ pub assign_struct-returns-in_err-evaluate : goal.assign_struct-returns-in_err-ev
 assign_struct-returns-in_err-evaluate t c = rw c.from_residual.ensures (struct_fails refl (of_kind c.is.ensures c.if-not-is.false) c.base-base.ensures c.evaluate.ensures.0 (ap is_some c.in_err-evaluate.was))
 
 pub assign_struct-store_struct-requires : goal.assign_struct-store_struct-requires
-assign_struct-store_struct-requires t c = (right_falls _ _ 0 0 c.decreases c.requires.fine c.requires.left_lt_right (omega arith), ((ready_on c.evaluate.ensures.0 c.requires.ready_by.0 (ap is_some c.in_ok-evaluate.was) (base_fine c.base-base.ensures (deref_kid (of_kind c.is.ensures c.if-not-is.false) c.requires.fine)), c.requires.ready_by.1), (c.requires.fine_right, c.requires.right_of_kind)))
+assign_struct-store_struct-requires t c =
+    let f = base_fine c.base-base.ensures (deref_kid (of_kind c.is.ensures c.if-not-is.false) c.requires.fine) in
+    (falls_on _ _ _ _ _ (how_on c.evaluate.ensures.0 f) (right_falls _ _ _ 0 0 c.decreases c.requires.fine c.requires.left_lt_right (omega arith)), ((ready_on c.evaluate.ensures.0 c.requires.ready_by.0 (ap is_some c.in_ok-evaluate.was) f, c.requires.ready_by.1), (c.requires.fine_right, c.requires.right_of_kind)))
 
 pub assign_struct-returns : goal.assign_struct-returns
 assign_struct-returns t c = struct_assigns refl (of_kind c.is.ensures c.if-not-is.false) c.base-base.ensures c.evaluate.ensures.0 (ap is_some c.in_ok-evaluate.was) c.store_struct.ensures
@@ -137,7 +144,7 @@ pub kids-at_hand-requires : goal.kids-at_hand-requires
 kids-at_hand-requires t c = search (rules, kid_here (over_more c.loop-i.invariant.0 c.in-Some.ensures.steps) (over_at c.loop-i.invariant.0 c.in-Some.ensures.steps).fine)
 
 pub kids-evaluate-requires : goal.kids-evaluate-requires
-kids-evaluate-requires t c = (here_falls _ _ c.decreases (over_at c.loop-i.invariant.0 c.in-Some.ensures.steps).past, ((c.loop-i.invariant.0.here.ready, c.requires.ready_by.1), kid_here (over_more c.loop-i.invariant.0 c.in-Some.ensures.steps) (over_at c.loop-i.invariant.0 c.in-Some.ensures.steps).fine))
+kids-evaluate-requires t c = (falls_on _ _ _ _ _ c.loop-i.invariant.0.here.how (here_falls _ _ _ c.decreases (over_at c.loop-i.invariant.0 c.in-Some.ensures.steps).past), ((c.loop-i.invariant.0.here.ready, c.requires.ready_by.1), kid_here (over_more c.loop-i.invariant.0 c.in-Some.ensures.steps) (over_at c.loop-i.invariant.0 c.in-Some.ensures.steps).fine))
 
 pub kids-returns-in_err-evaluate : goal.kids-returns-in_err-evaluate
 kids-returns-in_err-evaluate t c = rw c.from_residual.ensures (kids_stopped (over_at c.loop-i.invariant.0 c.in-Some.ensures.steps) (over_more c.loop-i.invariant.0 c.in-Some.ensures.steps) c.evaluate.ensures.0 (ap is_some c.in_err-evaluate.was))
@@ -161,7 +168,7 @@ pub store_fields-evaluate-requires : goal.store_fields-evaluate-requires
 store_fields-evaluate-requires t c =
     let z = over_at c.loop-i.invariant.0 c.in-Some.ensures.steps in
     let ne = over_more c.loop-i.invariant.0 c.in-Some.ensures.steps in
-    (field_falls _ _ 0 3 c.decreases z.past ne z.fine (omega arith), ((z.ready, c.requires.ready_by.1), field_kid ne z.fine))
+    (falls_on _ _ _ _ _ z.how (field_falls _ _ _ 0 3 c.decreases z.past ne z.fine (omega arith)), ((z.ready, c.requires.ready_by.1), field_kid ne z.fine))
 
 pub store_fields-returns-in_err-evaluate : goal.store_fields-returns-in_err-evaluate
 store_fields-returns-in_err-evaluate t c = rw c.from_residual.ensures (fields_stopped (over_at c.loop-i.invariant.0 c.in-Some.ensures.steps) (over_more c.loop-i.invariant.0 c.in-Some.ensures.steps) c.evaluate.ensures.0 (ap is_some c.in_err-evaluate.was))

@@ -10,55 +10,55 @@ use mathlib.Core.Path.{◌≡◌}
 use Rattle.machine.proofs.+evaluation.Given as goal
 
 abbrev pub decreases-args : goal.decreases-args
-decreases-args l = left l.reads.now.nodes.now l.n 4
+decreases-args l = left l.ws.now l.reads.now.nodes.now l.n 4
 
 abbrev pub decreases-assign : goal.decreases-assign
-decreases-assign l = left l.reads.now.nodes.now l.n 0
+decreases-assign l = left l.ws.now l.reads.now.nodes.now l.n 0
 
 abbrev pub decreases-assign_struct : goal.decreases-assign_struct
-decreases-assign_struct l = left l.reads.now.nodes.now l.left 0
+decreases-assign_struct l = left l.ws.now l.reads.now.nodes.now l.left 0
 
 abbrev pub decreases-assign_val : goal.decreases-assign_val
-decreases-assign_val l = left l.reads.now.nodes.now l.left 0
+decreases-assign_val l = left l.ws.now l.reads.now.nodes.now l.left 0
 
 abbrev pub decreases-assigned : goal.decreases-assigned
-decreases-assigned l = left l.reads.now.nodes.now l.n 2
+decreases-assigned l = left l.ws.now l.reads.now.nodes.now l.n 2
 
 abbrev pub decreases-binary : goal.decreases-binary
-decreases-binary l = left l.reads.now.nodes.now l.n 0
+decreases-binary l = left l.ws.now l.reads.now.nodes.now l.n 0
 
 abbrev pub decreases-call : goal.decreases-call
-decreases-call l = left l.reads.now.nodes.now l.n 0
+decreases-call l = left l.ws.now l.reads.now.nodes.now l.n 0
 
 abbrev pub decreases-cast : goal.decreases-cast
-decreases-cast l = left l.reads.now.nodes.now l.n 0
+decreases-cast l = left l.ws.now l.reads.now.nodes.now l.n 0
 
 abbrev pub decreases-deref : goal.decreases-deref
-decreases-deref l = left l.reads.now.nodes.now l.n 0
+decreases-deref l = left l.ws.now l.reads.now.nodes.now l.n 0
 
 abbrev pub decreases-evaluate : goal.decreases-evaluate
-decreases-evaluate l = left l.reads.now.nodes.now l.n 3
+decreases-evaluate l = left l.ws.now l.reads.now.nodes.now l.n 3
 
 abbrev pub decreases-intrinsic : goal.decreases-intrinsic
-decreases-intrinsic l = left l.reads.now.nodes.now l.n 0
+decreases-intrinsic l = left l.ws.now l.reads.now.nodes.now l.n 0
 
 abbrev pub decreases-kids : goal.decreases-kids
-decreases-kids l = left l.reads.now.nodes.now l.n 4
+decreases-kids l = left l.ws.now l.reads.now.nodes.now l.n 4
 
 abbrev pub decreases-operand : goal.decreases-operand
-decreases-operand l = left l.reads.now.nodes.now l.n 4
+decreases-operand l = left l.ws.now l.reads.now.nodes.now l.n 4
 
 abbrev pub decreases-returned : goal.decreases-returned
-decreases-returned l = left l.reads.now.nodes.now l.n 0
+decreases-returned l = left l.ws.now l.reads.now.nodes.now l.n 0
 
 abbrev pub decreases-store_fields : goal.decreases-store_fields
-decreases-store_fields l = left l.reads.now.nodes.now l.n 0
+decreases-store_fields l = left l.ws.now l.reads.now.nodes.now l.n 0
 
 abbrev pub decreases-store_struct : goal.decreases-store_struct
-decreases-store_struct l = left l.reads.now.nodes.now l.right 0
+decreases-store_struct l = left l.ws.now l.reads.now.nodes.now l.right 0
 
 abbrev pub decreases-ternary : goal.decreases-ternary
-decreases-ternary l = left l.reads.now.nodes.now l.n 0
+decreases-ternary l = left l.ws.now l.reads.now.nodes.now l.n 0
 
 abbrev pub invariant-args-loop-i : goal.invariant-args-loop-i
 invariant-args-loop-i l = Over l.reads.nodes.now l.end (λ i. ArgsSoFar l.reads.nodes.now l.reads.symbols.now l.reads.regions.now l.n l.end l.initial.ws l.initial.out l.initial.vals i l.j l.ws l.out l.vals) l.i-iterator × (length l.ws ≡ length l.initial.ws) × (length l.out ≡ length l.initial.out)

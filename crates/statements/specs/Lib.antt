@@ -1,7 +1,0 @@
-pub mod Telling
-pub mod Reasons
-pub mod Steps
-pub mod Endings
-pub mod Sorts
-pub mod Placing
-pub mod Post

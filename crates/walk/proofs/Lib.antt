@@ -1,4 +1,0 @@
-pub mod UnitLaws
-pub mod Spending
-pub mod WalkLaws
-pub mod IndexLaws

@@ -1,9 +1,0 @@
-use Rattle.walk.proofs.UnitLaws.{settles_within, settles_past}
-use borrow.Author.Rules.{rules}
-use Rattle.walk.proofs.settle.Goals as goal
-
-pub returns-then-k-statement_count : goal.returns-then-k-statement_count
-returns-then-k-statement_count c = search (rules, settles_within)
-
-pub returns : goal.returns
-returns c = search (rules, settles_past)
