@@ -1,4 +1,5 @@
-// What a statement of a block does: it spends no unit, and knows no order of the blocks. (`ReadyIn` is a clause, since the workspace changes, and so is `Fine`: it is of a node's number in a body.)
+// What a statement of a block does: it spends no unit, and knows no order of the blocks.
+// (`ReadyIn` is a clause, since the workspace changes, and so is `Fine`: it is of a node's number in a body.)
 ghost use Rattle.std.specs.Prelude.{◌≡◌, ◌+◌, ◌*◌, ◌≤◌, length};
 ghost use Rattle.files.specs.Nodes.{kind_of};
 ghost use Rattle.hosting.specs.Scene.{given_in};

@@ -1,6 +1,5 @@
 use native.Mathlib.Omega.{arith}
 use Rattle.passes.proofs.Buffer.{length_part}
-use Rattle.passes.proofs.Streams.{first_passed}
 use borrow.Author.Rules.{rules}
 use Rattle.passes.proofs.first_pass.Goals as goal
 

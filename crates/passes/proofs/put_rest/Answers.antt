@@ -1,6 +1,5 @@
-use Rattle.passes.proofs.Completing.{questions_room, laid, completes}
+use Rattle.passes.proofs.Completing.{laid, completes}
 use Rattle.passes.proofs.Files.{all_fine}
-use borrow.Author.Rules.{rules}
 use Rattle.passes.proofs.put_rest.Goals as goal
 
 pub put_bodies-requires : goal.put_bodies-requires

@@ -1,6 +1,5 @@
-use Rattle.passes.proofs.Arrival.{tabled_kept, tabled_typed, walk_arrives}
+use Rattle.passes.proofs.Arrival.{walk_arrives}
 use native.Mathlib.Omega.{arith}
-use borrow.Author.Rules.{rules}
 use Rattle.passes.proofs.walk_all.Goals as goal
 
 pub returns : goal.returns

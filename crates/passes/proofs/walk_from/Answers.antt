@@ -1,6 +1,5 @@
 use native.Mathlib.Omega.{arith}
-use Rattle.passes.proofs.Arrival.{walk_ready, walk_rooted, walk_balanced, walk_told}
-use borrow.Author.Rules.{rules}
+use Rattle.passes.proofs.Arrival.{walk_ready, walk_rooted, walk_balanced}
 use Rattle.passes.proofs.walk_from.Goals as goal
 
 pub walk-requires : goal.walk-requires

@@ -2,7 +2,6 @@ use native.Mathlib.Omega.{arith}
 use Rattle.setup.proofs.Rooting.{constant_stands}
 use Rattle.operations.proofs.Entering.{enters_ready}
 use Rattle.passes.proofs.Constancy.{eval_ready, eval_fine, evaluates}
-use borrow.Author.Rules.{rules}
 use Rattle.passes.proofs.evaluation.evaluate_in.Goals as goal
 
 pub eval-requires : goal.eval-requires
