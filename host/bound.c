@@ -17,54 +17,49 @@ enum { ROUTINE, SYMBOL, LOCAL };
 
 /* ---- The length by the counts */
 
-static size_t steps_length(struct emulate_bytes rest)
+/* A reader of an entry, which also tells what such an entry takes. */
+typedef size_t reader(struct emulate_bytes from, size_t *takes);
+
+static size_t read_step(struct emulate_bytes from, size_t *takes)
 {
     struct emulate_step step = { 0 };
-    size_t used, length = 0;
-    while ((used = emulate_read_step(rest, &step)) > 0) {
-        length += 63 + 2 * (step.taken.length / 2);
-        rest = emulate_after(rest, used);
-    }
-    return length;
+    size_t used = emulate_read_step(from, &step);
+    *takes = 63 + 2 * (step.taken.length / 2);
+    return used;
 }
 
-static size_t question_length(const struct emulate_question *asked)
+static size_t read_variable(struct emulate_bytes from, size_t *takes)
 {
-    if (asked->kind == EMULATE_ASKED_READ)
-        return 11 + asked->bytes.length;
-    if (asked->kind == EMULATE_ASKED_CALL)
-        return 17 + 14 * (asked->values.length / 14);
-    return 12;
+    struct emulate_variable variable_read;
+    *takes = 16;
+    return emulate_read_variable(from, &variable_read);
 }
 
-static size_t questions_length(struct emulate_bytes rest)
+static size_t read_written(struct emulate_bytes from, size_t *takes)
+{
+    struct emulate_written written;
+    *takes = 9;
+    return emulate_read_written(from, &written);
+}
+
+static size_t read_question(struct emulate_bytes from, size_t *takes)
 {
     struct emulate_question asked = { 0 };
-    size_t used, length = 0;
-    while ((used = emulate_read_question(rest, &asked)) > 0) {
-        length += question_length(&asked);
-        rest = emulate_after(rest, used);
-    }
-    return length;
+    size_t used = emulate_read_question(from, &asked);
+    *takes = 12;
+    if (asked.kind == EMULATE_ASKED_READ)
+        *takes = 11 + asked.bytes.length;
+    if (asked.kind == EMULATE_ASKED_CALL)
+        *takes = 17 + 14 * (asked.values.length / 14);
+    return used;
 }
 
-static size_t variables_length(struct emulate_bytes rest)
+static size_t body_length(struct emulate_bytes made, enum emulate_bodies which, reader *read)
 {
-    struct emulate_variable read = { 0 };
-    size_t used, length = 0;
-    while ((used = emulate_read_variable(rest, &read)) > 0) {
-        length += 16;
-        rest = emulate_after(rest, used);
-    }
-    return length;
-}
-
-static size_t memory_length(struct emulate_bytes rest)
-{
-    struct emulate_written read = { 0 };
-    size_t used, length = 0;
-    while ((used = emulate_read_written(rest, &read)) > 0) {
-        length += 9;
+    struct emulate_bytes rest = emulate_body(made, which);
+    size_t used, takes, length = 0;
+    while ((used = read(rest, &takes)) > 0) {
+        length += takes;
         rest = emulate_after(rest, used);
     }
     return length;
@@ -72,10 +67,10 @@ static size_t memory_length(struct emulate_bytes rest)
 
 static size_t length_by_counts(struct emulate_bytes made)
 {
-    return 99 + steps_length(emulate_body(made, EMULATE_BODY_STEPS))
-        + variables_length(emulate_body(made, EMULATE_BODY_VARIABLES))
-        + memory_length(emulate_body(made, EMULATE_BODY_MEMORY))
-        + questions_length(emulate_body(made, EMULATE_BODY_QUESTIONS));
+    return 99 + body_length(made, EMULATE_BODY_STEPS, read_step)
+        + body_length(made, EMULATE_BODY_VARIABLES, read_variable)
+        + body_length(made, EMULATE_BODY_MEMORY, read_written)
+        + body_length(made, EMULATE_BODY_QUESTIONS, read_question);
 }
 
 /* ---- The bound */
