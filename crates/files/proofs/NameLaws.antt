@@ -1,17 +1,15 @@
 -- What the tests of a text, of a name and of a type show. Assumes nothing.
-use mathlib.Core.Path.{◌≡◌, refl, sym, ap, ◌∙◌}
-use mathlib.Core.Bool.{Bool, true, false, cond, not, ◌&&◌, ◌||◌, and-true}
-use mathlib.Core.List.{List, [], ◌∷◌}
+use mathlib.Core.Path.{◌≡◌, refl, sym, ◌∙◌}
+use mathlib.Core.Bool.{Bool, true, false, not, ◌&&◌, ◌||◌, and-true}
+use mathlib.Core.List.{List, []}
 use Prim.Native.Nat.{ℕ, suc, ◌+◌, ◌-◌, ◌≤◌, ◌<◌}
+use native.Mathlib.Numerals.{add-one}
 use native.Mathlib.Omega.{arith}
-use borrow.Author.Tests.{le-leb, lt-ltb}
-use lib.Dec.{ltb, leb, eqb}
-use lib.ListN.{length, get_or, drop, length-take, length-drop}
+use borrow.Author.Tests.{le-leb, lt-ltb, le-ltb, ltb-true, ltb-false, eq-eqb, ne_eqb}
+use lib.Dec.{ltb, leb}
+use lib.ListN.{length, get_or, drop, drop_of_length-le, length-take, length-drop}
+use lib.Seq.{drop-cons}
 use Rattle.std.specs.Prelude.{None, Some}
-use Rattle.std.specs.List.{list_all}
-use Rattle.std.specs.Cmp.Lexicographic.{slice_partial_cmp}
-use Rattle.std.specs.Ordering.{nat_cmp, is_lt, is_some_and, partial_lt, partial_ordering_then}
-use Rattle.std.specs.declared.cmp.Ordering.TheVariants.{Less, Equal, Greater}
 use Rattle.files.specs.Bytes.{part, one_less}
 use Rattle.files.specs.Names.{printable, before, last, name_at, name_items, names_in, type_at, type_items, types_in, text_at, text_items, counted}
 use Rattle.files.specs.Refusal.{names_of, types_of}
@@ -19,25 +17,47 @@ use Rattle.files.specs.declared.names.Texts.{Texts}
 use Rattle.files.specs.declared.names.TheConstants.Texts.{NAMES, TYPES}
 use Rattle.files.proofs.ItemLaws.{same_read, one_less_none, one_less_some}
 
--- the test that the library's `all` makes of each byte
-pub printable_all : (lo hi : ℕ) (s : List ℕ) → list_all (λ x. leb lo x && leb x hi) s ≡ printable lo hi s
-unfolding printable
-printable_all lo hi [] = refl
-printable_all lo hi (x ∷ xs) = ap (λ (r : Bool). leb lo x && leb x hi && r) (printable_all lo hi xs)
+-- at a place of a loop over the bytes: the answer b is that of those before and of what is left of the text
+module _ (lo hi : ℕ) (s : List ℕ) (i : ℕ) (b ok : Bool) (e : b ≡ (ok && printable lo hi (drop i s))) where
+  pub printable_end : length s ≤ i → ok ≡ b
+  unfolding printable
+  printable_end h = sym (e ∙ rw (drop_of_length-le s h, and-true ok))
 
--- what `<` of two slices of bytes gives
-pub less_before : (a b : List ℕ) → partial_lt (slice_partial_cmp (λ x y. Some (nat_cmp x y))) a b ≡ before a b
-unfolding before
-less_before [] [] = refl
-less_before [] (y ∷ ys) = refl
-less_before (x ∷ xs) [] = refl
-less_before (x ∷ xs) (y ∷ ys) = go (ltb x y) (eqb x y) (less_before xs ys)
-  where
-    go : (t u : Bool) → partial_lt (slice_partial_cmp (λ x y. Some (nat_cmp x y))) xs ys ≡ before xs ys
-        → is_some_and is_lt (partial_ordering_then (Some (cond t Less (cond u Equal Greater))) (slice_partial_cmp (λ x y. Some (nat_cmp x y)) xs ys)) ≡ (t || (u && before xs ys))
-    go true u h = refl
-    go false true h = h
-    go false false h = refl
+  pub printable_on : i < length s → b ≡ (ok && leb lo (get_or s i 0) && leb (get_or s i 0) hi && printable lo hi (drop (i + 1) s))
+  unfolding printable
+  printable_on h = e ∙ rw (add-one, drop-cons s i 0 h) (go ok _ _ _)
+    where
+      go : (z x y r : Bool) → (z && (x && y && r)) ≡ (z && x && y && r)
+      go true x y r = refl
+      go false x y r = refl
+
+-- at a place of a loop over two texts: the answer b is what is left of both
+module _ (s t : List ℕ) (i : ℕ) (b : Bool) (e : b ≡ before (drop i s) (drop i t)) where
+  pub before_end : i ≡ length s → ltb (length s) (length t) ≡ b
+  unfolding before
+  before_end h = let l : length s ≤ i = omega (arith, h) in rw (sym h) (sym (e ∙ rw (drop_of_length-le s l) (go (ltb i (length t)) refl)))
+    where
+      go : (b : Bool) → ltb i (length t) ≡ b → before [] (drop i t) ≡ b
+      go true e = rw (drop-cons t i 0 (ltb-true _ _ e))
+      go false e = rw (drop_of_length-le t (ltb-false _ _ e))
+
+  pub before_longer : i < length s → length t ≤ i → false ≡ b
+  unfolding before
+  before_longer h l = sym (e ∙ rw (drop-cons s i 0 h, drop_of_length-le t l))
+
+  pub before_less : i < length s → i < length t → get_or s i 0 < get_or t i 0 → true ≡ b
+  unfolding before
+  before_less h g l = sym (e ∙ rw (drop-cons s i 0 h, drop-cons t i 0 g, lt-ltb _ _ l))
+
+  pub before_more : i < length s → i < length t → get_or t i 0 < get_or s i 0 → false ≡ b
+  unfolding before
+  before_more h g l =
+      sym (e ∙ rw (drop-cons s i 0 h, drop-cons t i 0 g, le-ltb (get_or s i 0) (get_or t i 0) (omega arith), ne_eqb (get_or s i 0) (get_or t i 0) (λ e. omega arith)))
+
+  pub before_on : i < length s → i < length t → get_or t i 0 ≤ get_or s i 0 → get_or s i 0 ≤ get_or t i 0 → b ≡ before (drop (i + 1) s) (drop (i + 1) t)
+  unfolding before
+  before_on h g l u =
+      e ∙ rw (add-one, drop-cons s i 0 h, drop-cons t i 0 g, le-ltb (get_or s i 0) (get_or t i 0) l, eq-eqb (get_or s i 0) (get_or t i 0) (omega arith))
 
 -- ---- a text
 

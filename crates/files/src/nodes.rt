@@ -75,12 +75,17 @@ pub fn value(nodes: &[u8], n: usize) -> u64
     layout::get::<8>(nodes, n * SIZE + 12)
 }
 
-// Whether a reference is below its bound, by an answer for each thing that a reference can be: a branch would be guessed wrong where kinds alternate.
+// Whether a reference is below its bound, by a bit for each thing that a reference can be: a branch would be guessed wrong where kinds alternate, and an array of
+// four answers is compiled to one.
 fn is_below(refers: Refers, r: usize, bounds: Bounds) -> bool
     ensures { result ≡ ltb r (ref_below (refers_number refers) bounds.names bounds.types) }
 {
-    let below = [r < 1, r < bounds.names, r < bounds.types, r < 65536];
-    below[refers as usize]
+    let none = (r < 1) as u64;
+    let name = (r < bounds.names) as u64;
+    let ty = (r < bounds.types) as u64;
+    let index = (r < 65536) as u64;
+    let bits = none + name * 2 + ty * 4 + index * 8;
+    (bits >> refers as u64) % 2 == 1
 }
 
 // Whether node n has a kind, and each field is what the kind lets it be.

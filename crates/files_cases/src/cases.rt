@@ -1,25 +1,77 @@
 // Cases in pages: a name, the expected number and node, and the files, each coded as pieces that stand there so many times.
-use anyhow::Context;
+ghost use Rattle.std.specs.Prelude.{◌≤◌, IfOk, length};
+
 use bytes::Buf;
 use files::refusal::Refusal;
+use std::alloc::Allocator;
 use std::io;
 
+// The most bytes that a file may have.
+const SPACE: usize = 65536;
+
+// The bytes at the front of a page, so many, or all that are left.
+fn front<'a>(page: &mut &'a [u8], size: usize) -> &'a [u8] {
+    let (bytes, rest) = page.split_at(size.min(page.len()));
+    *page = rest;
+    bytes
+}
+
+// Numbers at the front of a page, 0 where it ends within them.
+fn byte(page: &mut &[u8]) -> u8 {
+    front(page, 1).try_get_u8().unwrap_or(0)
+}
+
+fn half(page: &mut &[u8]) -> u16 {
+    front(page, 2).try_get_u16_le().unwrap_or(0)
+}
+
+fn word(page: &mut &[u8]) -> u32 {
+    front(page, 4).try_get_u32_le().unwrap_or(0)
+}
+
+// Bytes over and over, the first time as they are, then as many as stand there already: a piece may have one byte and stand there 65,536 times.
+fn fill(part: &mut [u8], bytes: &[u8]) {
+    let mut done = bytes.len().min(part.len());
+    part[..done].copy_from_slice(&bytes[..done]);
+    while 0 < done && done < part.len() {
+        let more = done.min(part.len() - done);
+        part.copy_within(..more, done);
+        done += more;
+    }
+}
+
+// The bytes, so many times, at a file's end. Nothing is put past the space that there is.
+fn repeat<A: Allocator>(bytes: &[u8], times: u32, file: &mut Vec<u8, A>) -> io::Result<()>
+    requires { length file.old.items ≤ 65536 }
+    ensures { length file.new.items ≤ 65536 }
+{
+    if bytes.is_empty() {
+        return Ok(());
+    }
+    let start = file.len();
+    let room = SPACE - start;
+    let whole = room - room % bytes.len();
+    let size = whole.min(bytes.len().saturating_mul(times as usize));
+    file.resize(start + size, 0)?;
+    fill(&mut file[start..], bytes);
+    Ok(())
+}
+
 // The file coded at the front of a page.
-fn unpack<R: Alloc>(rt: &R, page: &mut &[u8]) -> anyhow::Result<Vec<u8, R::A>> {
+fn unpack<R: Alloc>(rt: &R, page: &mut &[u8]) -> io::Result<Vec<u8, R::A>>
+    ensures { IfOk result (λ v. length v.items ≤ 65536) }
+{
     let mut file = Vec::new(rt.alloc());
-    for _ in 0..page.try_get_u16_le()? {
-        let times = page.try_get_u32_le()?;
-        let size = page.try_get_u32_le()? as usize;
-        let bytes = page.split_off(..size).context("a page ends early")?;
-        for _ in 0..times {
-            file.extend_from_slice(bytes)?;
-        }
+    for _ in 0..half(page) {
+        let times = word(page);
+        let size = word(page) as usize;
+        repeat(front(page, size), times, &mut file)?;
     }
     Ok(file)
 }
 
 // A case of three files.
-fn run(rt: &impl Alloc, page: &mut &[u8]) -> anyhow::Result<Result<(), Refusal>> {
+fn run(rt: &impl Alloc, page: &mut &[u8]) -> io::Result<Result<(), Refusal>> {
     let routine = unpack(rt, page)?;
     let world = unpack(rt, page)?;
     let call = unpack(rt, page)?;
@@ -27,8 +79,8 @@ fn run(rt: &impl Alloc, page: &mut &[u8]) -> anyhow::Result<Result<(), Refusal>>
 }
 
 // A case of a node and its routine.
-fn constant(rt: &impl Alloc, page: &mut &[u8]) -> anyhow::Result<Result<(), Refusal>> {
-    let node = page.try_get_u32_le()? as usize;
+fn constant(rt: &impl Alloc, page: &mut &[u8]) -> io::Result<Result<(), Refusal>> {
+    let node = word(page) as usize;
     let routine = unpack(rt, page)?;
     Ok(files::check_constant(&routine, node))
 }
@@ -53,21 +105,20 @@ fn report(
 }
 
 // The case at the front of a page.
-fn compare(rt: &(impl Alloc + Print), page: &mut &[u8]) -> anyhow::Result<()> {
-    let size = page.try_get_u8()? as usize;
-    let name = page.split_off(..size).context("a page ends early")?;
-    let number = page.try_get_u8()? as u32;
-    let node = page.try_get_u32_le()?;
-    let checked = match page.try_get_u8()? {
+fn compare(rt: &(impl Alloc + Print), page: &mut &[u8]) -> io::Result<()> {
+    let size = byte(page) as usize;
+    let name = front(page, size);
+    let number = byte(page) as u32;
+    let node = word(page);
+    let checked = match byte(page) {
         1 => constant(rt, page)?,
         _ => run(rt, page)?,
     };
-    report(rt, name, number, node, checked)?;
-    Ok(())
+    report(rt, name, number, node, checked)
 }
 
 // The cases of a page: how many there are. It ends at a name of no byte.
-pub fn compare_page(rt: &(impl Alloc + Print), mut page: &[u8]) -> anyhow::Result<usize> {
+pub fn compare_page(rt: &(impl Alloc + Print), mut page: &[u8]) -> io::Result<usize> {
     let most = page.len();
     // Each case has bytes of its own.
     for count in 0..most {

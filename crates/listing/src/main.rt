@@ -3,6 +3,8 @@
 
 mod run;
 
+ghost use Rattle.std.specs.Prelude.{◌≤◌, IfOk, length};
+
 use std::alloc::Global;
 use std::rt::Files;
 use std::{fs, io};
@@ -11,7 +13,9 @@ use std::{fs, io};
 const MOST: u64 = 65536;
 
 // The bytes of a file. One that cannot be opened is taken as empty; of a longer one the run is refused by its number.
-fn read_file(rt: &impl Files, alloc: Global, path: &str) -> io::Result<Vec<u8>> {
+fn read_file(rt: &impl Files, alloc: Global, path: &str) -> io::Result<Vec<u8>>
+    ensures { IfOk result (λ v. length v.items ≤ 65536) }
+{
     match fs::open(rt, path) {
         Ok(file) => reading::read_full(alloc, file, MOST),
         Err(_) => Ok(Vec::new(alloc)),

@@ -16,8 +16,8 @@ ghost use Rattle.hosting.specs.Scene.{given_in};
 ghost use Rattle.operations.specs.Going.{ReadyIn};
 ghost use Rattle.machine.specs.Post.{reading, ReadyBy, Evals, Executes, Evaluates, Assigns, EvaluatesKids, EvaluatesArgs, AssignsVal, AssignsStruct, StoresStruct, StoresFields};
 
-mod statements;
-mod terminators;
+pub mod statements;
+pub mod terminators;
 pub mod walk;
 
 use files::kinds::Kind;
@@ -45,7 +45,7 @@ pub fn eval(reads: &Reads, ws: &mut [u8], out: &mut [u8], n: usize) -> Result<Va
 
 // What a statement that is the expression at node n does.
 #[tactic(auto, using(hosting::proofs::Shapes::room, crate::proofs::Room::room_after, crate::proofs::Noting::gives_executes, files::proofs::KindLaws::of_kind))]
-fn execute(reads: &Reads, ws: &mut [u8], out: &mut [u8], n: usize) -> Result<Did, Short>
+pub fn execute(reads: &Reads, ws: &mut [u8], out: &mut [u8], n: usize) -> Result<Did, Short>
     requires ready_in { ReadyIn (given_in reads.now) ws.old }
     requires fine { Fine reads.now.nodes.now n }
     ensures { reading reads.now Executes n ws.old out.old result ws.new out.new }

@@ -163,6 +163,24 @@ pub told_last : (w : List ℕ) {n : ℕ} {t : Told} → n ≡ word_at (registers
 unfolding kind_in
 told_last w e q = q ∙ ap told_at e
 
+-- the same of a word that is, or is not, a choice's own number
+pub told_same : (w : List ℕ) {n k : ℕ} {t : Told} → n ≡ word_at (registers_part w) 11 → told_at k ≡ t → n ≡ k → t ≡ kind_in w
+unfolding kind_in
+told_same w e et q = sym et ∙ ap told_at (sym q ∙ e)
+
+wrote_number : (k : ℕ) → told_at k ≡ told.Wrote → k ≡ 0
+wrote_number zero e = refl
+wrote_number (suc zero) e = cc
+wrote_number (suc (suc k)) e = cc
+
+fields_number : (k : ℕ) → told_at k ≡ told.Fields → k ≡ 1
+fields_number zero e = cc
+fields_number (suc zero) e = refl
+fields_number (suc (suc k)) e = cc
+
+pub told_neither : (w : List ℕ) {n j k : ℕ} → n ≡ word_at (registers_part w) 11 → told_at j ≡ told.Wrote → told_at k ≡ told.Fields → (n ≡ j → ⊥) → (n ≡ k → ⊥) → told.Written ≡ kind_in w
+told_neither w {n} {j} {k} e ej ek z o = told_last w e (told_other n (λ q. z (q ∙ sym (wrote_number j ej))) (λ q. o (q ∙ sym (fields_number k ek))))
+
 -- what an Assign told, by its words
 module _ (w : List ℕ) {t : Told} (et : t ≡ kind_in w) where
   told_as : {k : Told} → t ≡ k → told_in w ≡ did_by k (word_at (registers_part w) 12) (word_at (registers_part w) 13) (value_at (registers_part w) 1)

@@ -41,7 +41,7 @@ const REASON: usize = 9;
 const NUMBER: usize = 10;
 
 // What an Assign told: what it wrote, where or to which variable, and how many fields.
-const TOLD: usize = 11;
+pub const TOLD: usize = 11;
 
 const WHERE: usize = 12;
 
@@ -236,21 +236,23 @@ fn notes(note: NotePiece) -> Did
     Did { wrote: None, note }
 }
 
-// What an Assign that did not end short did.
-#[tactic(auto, using(crate::proofs::Answering::did_wrote, crate::proofs::Answering::did_fields, crate::proofs::Answering::did_value))]
+// What an Assign that did not end short did. (By the word itself: of a `match` on `last_told` the compiler makes the enum's number first.)
 fn did(ws: &[u8]) -> Did
     requires { workspace_size ≤ length ws.now }
     ensures { did_of result ≡ told_in ws.now }
 {
     let place = registers::word(ws, WHERE);
     let value = registers::value(ws, WROTE);
-    match last_told(ws) {
-        Told::Wrote => Did {
+    let told = registers::word(ws, TOLD);
+    if told == u64::from(Told::Wrote) {
+        Did {
             wrote: Some((place as usize, value)),
             note: NotePiece::Nothing,
-        },
-        Told::Fields => notes(NotePiece::Fields(place, registers::word(ws, FIELDS))),
-        Told::Written => notes(NotePiece::Written(place, value)),
+        }
+    } else if told == u64::from(Told::Fields) {
+        notes(NotePiece::Fields(place, registers::word(ws, FIELDS)))
+    } else {
+        notes(NotePiece::Written(place, value))
     }
 }
 

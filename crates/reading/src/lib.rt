@@ -1,7 +1,7 @@
 // Input read whole, up to a limit.
 #![tactic(auto)]
 
-ghost use Rattle.std.specs.Prelude.{◌≡◌, IfOk, IfSome, take};
+ghost use Rattle.std.specs.Prelude.{◌≡◌, ◌≤◌, IfOk, IfSome, length, take};
 
 use std::alloc::Global;
 use std::io;
@@ -9,10 +9,13 @@ use std::io::Read;
 
 // The bytes that a reader gives, at most so many.
 pub fn read_full<R: Read + Drop>(alloc: Global, reader: R, most: u64) -> io::Result<Vec<u8>>
-    ensures { IfSome (R.remaining reader) (λ bytes. IfOk result (λ v. v.items ≡ take most bytes)) }
+    ensures all { IfSome (R.remaining reader) (λ bytes. IfOk result (λ v. v.items ≡ take most bytes)) }
+    ensures short { IfOk result (λ v. length v.items ≤ most) }
 {
     let mut bytes = Vec::new(alloc);
     reader.take(most).read_to_end(&mut bytes)?;
+    // Nothing is cut off: that no more come is said by the library only where a reader's bytes are known.
+    bytes.truncate(most as usize);
     Ok(bytes)
 }
 

@@ -5,7 +5,7 @@ ghost use Rattle.std.specs.Prelude.{◌≡◌, List, ℕ};
 ghost use Rattle.std.specs.Iterator.{AlwaysYields};
 ghost use Rattle.layout.specs.Text.{same};
 ghost use Rattle.value.specs.Value.{type};
-ghost use Rattle.spelling.specs.Spelling.{pieces, any_is, any_sign, dropped, is, is_bool, is_short_int, fixed_bits, unsigned_word, alone, two, named, base_type, FoundStar, type_of, pointee_of};
+ghost use Rattle.spelling.specs.Spelling.{pieces, any_is, any_unsigned, any_sign, dropped, is, is_bool, is_short_int, fixed_bits, unsigned_word, alone, two, named, base_type, FoundStar, type_of, pointee_of};
 
 use value::Ty;
 
@@ -32,6 +32,12 @@ fn has(s: &[u8], word: &[u8]) -> bool
     ensures { result ≡ any_is word.now (pieces s.now) }
 {
     s.split(|c| *c == b' ').any(|w| is(w, word))
+}
+
+pub fn has_unsigned(s: &[u8]) -> bool
+    ensures { result ≡ any_unsigned (pieces s.now) }
+{
+    has(s, b"unsigned")
 }
 
 fn has_sign(s: &[u8]) -> bool
@@ -151,7 +157,7 @@ fn base_type(s: &[u8]) -> Ty
     ensures { result ≡ base_type (pieces s.now) }
 {
     let words = s.split(|c| *c == b' ').filter(|w| !is_dropped(w));
-    named(words, has(s, b"unsigned"))
+    named(words, has_unsigned(s))
 }
 
 // The type that a spelling names.

@@ -1,19 +1,20 @@
 -- The bodies that are written at once, and the pairs: stored group by group. Assumes nothing.
-use mathlib.Core.Path.{◌≡◌, refl, ap, ◌∙◌}
+use mathlib.Core.Path.{◌≡◌, refl, ap, ap₂, ◌∙◌}
 use mathlib.Core.List.{List, [], ◌∷◌, ◌++◌}
 use Rattle.std.specs.Prelude.{Option, Some}
 use Prim.Native.Nat.{ℕ, ◌+◌}
 use lib.Seq.{sets}
 use Rattle.value.specs.declared.Val.{Val}
 use Rattle.layout.specs.Number.{le, put_number}
-use Rattle.definition.specs.Record.{counts_body}
+use Rattle.definition.specs.Record.{stop_with, counts_body}
 use Rattle.stream.specs.declared.Reason.{Reason}
 use Rattle.stream.specs.declared.Reason.TheVariants.{BranchUnknown, SwitchUnknown, NoCase, StructTo, UnknownAddress, UnknownValue, NoWidth, StoreTo, ByZero}
 use Rattle.stream.specs.declared.StopPiece.{StopPiece}
+use Rattle.stream.specs.declared.StopNumbers.{StopNumbers}
 use Rattle.stream.specs.declared.Lengths.{Lengths}
 use Rattle.value.specs.Encoding.{val_bytes}
 use Rattle.stream.specs.Groups.{flagged_bytes, cause_bytes, named_bytes}
-use Rattle.stream.specs.Bodies.{kind_number, reason_number, reason_at, reason_field, stop_size, counts_size, stop_place, steps_place, stop_bytes, stop_from, pairs_of, lengths_of}
+use Rattle.stream.specs.Bodies.{kind_number, reason_number, reason_at, reason_field, stop_size, counts_size, stop_place, steps_place, stop_bytes, stop_from, stop_with_numbers, pairs_of, lengths_of}
 use Rattle.stream.proofs.StoreLaws.{two_stored}
 
 -- ---- Stop
@@ -43,11 +44,17 @@ named_stored s t u w x number node name v p q r e =
     two_stored (le 8 number ++ le 4 node ++ le 2 name) (val_bytes v) s w x 11 25
     (two_stored (le 8 number ++ le 4 node) (le 2 name) s u w 11 23 (two_stored (le 8 number) (le 4 node) s t u 11 19 p q refl) r refl) e refl
 
-pub stop_stored : (s t u : List ℕ) (p : StopPiece) → t ≡ sets s 0 (cause_bytes (kind_number p.kind) (reason_field p.reason) p.address)
-    → u ≡ sets t 11 (named_bytes p.number p.node p.name p.value) → u ≡ sets s 0 (stop_bytes (stop_from p))
-unfolding cause_bytes named_bytes stop_bytes stop_from
-stop_stored s t u p a b =
-    two_stored (cause_bytes (kind_number p.kind) (reason_field p.reason) p.address) (named_bytes p.number p.node p.name p.value) s t u 0 11 a b refl
+pub stop_stored : (s t u : List ℕ) (p : StopNumbers) → t ≡ sets s 0 (cause_bytes p.kind p.reason p.address) → u ≡ sets t 11 (named_bytes p.number p.node p.name p.value)
+    → u ≡ sets s 0 (stop_bytes (stop_with_numbers p))
+unfolding cause_bytes named_bytes stop_bytes stop_with_numbers
+stop_stored s t u p a b = two_stored (cause_bytes p.kind p.reason p.address) (named_bytes p.number p.node p.name p.value) s t u 0 11 a b refl
+
+-- a stop's numbers are those of its kind and its reason
+pub kind_stored : (s t : List ℕ) (p : StopPiece) (k r : ℕ) → k ≡ kind_number p.kind → r ≡ reason_field p.reason
+    → t ≡ sets s 0 (stop_bytes (stop_with_numbers (record { kind = k; reason = r; address = p.address; number = p.number; node = p.node; name = p.name; value = p.value })))
+    → t ≡ sets s 0 (stop_bytes (stop_from p))
+unfolding stop_from stop_with_numbers
+kind_stored s t p k r e f q = q ∙ ap₂ (λ (a b : ℕ). sets s 0 (stop_bytes (stop_with a b p.address p.number p.node p.name p.value))) e f
 
 -- ---- Counts
 

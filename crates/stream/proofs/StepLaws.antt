@@ -23,9 +23,10 @@ use Rattle.definition.specs.Fields.{no_val}
 use Rattle.definition.specs.Record.{wrote_fields, NoteFields, note_fields}
 use Rattle.stream.specs.declared.NotePiece.{NotePiece}
 use Rattle.stream.specs.declared.NotePiece.TheVariants.{Nothing, Fields, Written, Unknown, NotFollowed}
+use Rattle.stream.specs.declared.NoteNumbers.{NoteNumbers}
 use Rattle.stream.specs.declared.StepPiece.{StepPiece}
 use Rattle.value.specs.Encoding.{val_bytes}
-use Rattle.stream.specs.Pieces.{step_bytes, note_from, step_from, taken_count, taken_names}
+use Rattle.stream.specs.Pieces.{step_bytes, note_from, step_from, taken_count, taken_names, told_count, told_names, note_with_numbers, step_with_numbers}
 use Rattle.stream.specs.Groups.{flagged_bytes, place_bytes, wrote_bytes, note_bytes, head_bytes, names_bytes}
 use Rattle.stream.proofs.StoreLaws.{two_stored}
 
@@ -81,12 +82,17 @@ length_taken note names = length_reads (number 2) (taken_count note names) (drop
 pub length_names : (xs : List ℕ) → length (writes (number 2) xs) ≡ 2 * length xs
 length_names xs = omega (arith, length_writes name xs)
 
-names_bytes_lem : (note : NotePiece) (count : ℕ) (names : List ℕ) → Bytes names → 2 + 2 * count ≤ length names → count ≡ taken_count note names
-    → names_bytes count names ≡ le 2 (length (taken_names note names)) ++ writes (number 2) (taken_names note names)
-unfolding names_bytes taken_names
-names_bytes_lem note count names all h e =
+names_are : (k count : ℕ) (names : List ℕ) → Bytes names → 2 + 2 * count ≤ length names → count ≡ k
+    → names_bytes count names ≡ le 2 (length (reads (number 2) k (drop 2 names)).0) ++ writes (number 2) (reads (number 2) k (drop 2 names)).0
+unfolding names_bytes
+names_are k count names all h e =
     ap₂ (λ (n : ℕ) (l : List ℕ). le 2 n ++ l) (sym (length_reads (number 2) count (drop 2 names))) (sym (names_again count (drop 2 names) (each_drop 2 names all) (rw length-drop (omega arith))))
     ∙ ap (λ (k : ℕ). le 2 (length (reads (number 2) k (drop 2 names)).0) ++ writes (number 2) (reads (number 2) k (drop 2 names)).0) e
+
+names_bytes_lem : (note : NotePiece) (count : ℕ) (names : List ℕ) → Bytes names → 2 + 2 * count ≤ length names → count ≡ taken_count note names
+    → names_bytes count names ≡ le 2 (length (taken_names note names)) ++ writes (number 2) (taken_names note names)
+unfolding taken_names
+names_bytes_lem note count names all h e = names_are (taken_count note names) count names all h e
 
 -- ---- the note
 
@@ -194,3 +200,27 @@ module _ (p : StepPiece) (n : NotePiece) where
 
   pub length_noted : length (step_bytes (step_from p n [])) ≡ 63
   length_noted = length_step p n [] 0 (none_counted n)
+
+-- ---- a step whose note is given by its numbers
+
+module _ (p : StepPiece) (n : NoteNumbers) (names : List ℕ) where
+  numbers_lem : fixed p (head (note_with_numbers n names)) ++ (le 2 (length (told_names n.taken names)) ++ writes (number 2) (told_names n.taken names)) ≡ step_bytes (step_with_numbers p n names)
+  unfolding place_bytes wrote_bytes note_bytes step_bytes note_with_numbers step_with_numbers
+  numbers_lem = refl
+
+  pub numbers_stored : (s t u w x : List ℕ) (at count : ℕ) → count ≡ told_count n.taken names → 2 + 2 * count ≤ length names → ((i : ℕ) → Fits w8 (get_or names i 0))
+      → t ≡ sets s at (place_bytes p.address p.block p.statement)
+      → u ≡ sets t (at + 17) (wrote_bytes (wrote_fields p.wrote))
+      → w ≡ sets u (at + 34) (note_bytes n.kind n.address n.count n.value)
+      → x ≡ sets w (at + 61) (names_bytes count names)
+      → x ≡ sets s at (step_bytes (step_with_numbers p n names))
+  unfolding note_with_numbers told_names
+  numbers_stored s t u w x at count e h all a b c d =
+      fixed_stored p (head (note_with_numbers n names)) (names_bytes count names) s t u w x at (length_head (note_with_numbers n names)) a b c d
+      ∙ ap (λ (l : List ℕ). sets s at (fixed p (head (note_with_numbers n names)) ++ l)) (names_are (told_count n.taken names) count names (each_byte names (λ i. (all i).fits)) h e)
+      ∙ ap (sets s at) numbers_lem
+
+  pub length_numbered : (count : ℕ) → count ≡ told_count n.taken names → length (step_bytes (step_with_numbers p n names)) ≡ 63 + 2 * count
+  unfolding step_bytes note_with_numbers step_with_numbers told_names
+  length_numbered count e =
+      omega (arith, length_names (told_names n.taken names), length_reads (number 2) (told_count n.taken names) (drop 2 names))

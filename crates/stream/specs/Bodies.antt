@@ -11,6 +11,7 @@ use Rattle.stream.specs.declared.Kind.TheVariants.{Returned, ReturnedNothing, St
 use Rattle.stream.specs.declared.Reason.{Reason}
 use Rattle.stream.specs.declared.Reason.TheVariants.{BranchUnknown, SwitchUnknown, NoCase, StructTo, UnknownAddress, UnknownValue, NoWidth, StoreTo, ByZero}
 use Rattle.stream.specs.declared.StopPiece.{StopPiece}
+use Rattle.stream.specs.declared.StopNumbers.{StopNumbers}
 use Rattle.stream.specs.declared.Lengths.{Lengths}
 
 -- ---- why an evaluation ended short
@@ -83,6 +84,10 @@ stop_bytes f = stop_format.write f
 
 unfoldable pub stop_from : StopPiece → StopFields
 stop_from s = stop_with (kind_number s.kind) (reason_field s.reason) s.address s.number s.node s.name s.value
+
+-- the same of a stop by its numbers, whatever they are
+unfoldable pub stop_with_numbers : StopNumbers → StopFields
+stop_with_numbers s = stop_with s.kind s.reason s.address s.number s.node s.name s.value
 
 -- ---- where the bodies of fixed length lie: behind six pairs of 8 bytes, and the steps behind them
 

@@ -1,5 +1,5 @@
 -- The bytes of a stream's pieces, from what the code is given. The formats are the definition's (document 01, "The record"). Assumes nothing.
-use Rattle.std.specs.Prelude.{List, [], ◌∷◌, ◌++◌, ℕ, zero, suc, drop, Option, None, Some}
+use Rattle.std.specs.Prelude.{Bool, true, false, List, [], ◌∷◌, ◌++◌, ℕ, zero, suc, drop, Option, None, Some}
 use Rattle.value.specs.declared.Val.{Val}
 use Rattle.layout.specs.Number.{le, number_at}
 use Rattle.layout.specs.Format.{number, reads}
@@ -15,6 +15,7 @@ use Rattle.stream.specs.declared.NotePiece.{NotePiece}
 use Rattle.stream.specs.declared.NotePiece.TheVariants.{Nothing, Fields, Written, Unknown, NotFollowed}
 use Rattle.stream.specs.declared.NoteKind.{NoteKind}
 use Rattle.stream.specs.declared.NoteKind.TheVariants as kind
+use Rattle.stream.specs.declared.NoteNumbers.{NoteNumbers}
 use Rattle.stream.specs.declared.StepPiece.{StepPiece}
 
 -- ---- questions
@@ -98,3 +99,19 @@ note_from note names = note_fields (note_of note names)
 
 unfoldable pub step_from : StepPiece → NotePiece → List ℕ → StepFields
 step_from s note names = (flag_and_number s.address, (s.block, (s.statement, (wrote_fields s.wrote, note_from note names))))
+
+-- ---- a step whose note is given by its numbers, whatever they are
+
+-- how many names stand beside it, and which
+abbrev pub told_count : (taken : Bool) → List ℕ → ℕ
+told_count true names = number_at names 0 2
+told_count false names = 0
+
+unfoldable pub told_names : (taken : Bool) → List ℕ → List ℕ
+told_names taken names = (reads (number 2) (told_count taken names) (drop 2 names)).0
+
+unfoldable pub note_with_numbers : NoteNumbers → List ℕ → NoteFields
+note_with_numbers n names = (n.kind, (n.address, (n.count, (n.value, told_names n.taken names))))
+
+unfoldable pub step_with_numbers : StepPiece → NoteNumbers → List ℕ → StepFields
+step_with_numbers s note names = (flag_and_number s.address, (s.block, (s.statement, (wrote_fields s.wrote, note_with_numbers note names))))

@@ -10,10 +10,10 @@ ghost use Rattle.layout.specs.Number.{le};
 ghost use Rattle.definition.specs.Fields.{no_val, code_of};
 ghost use Rattle.definition.specs.Record.{wrote_fields, counts_body};
 ghost use Rattle.stream.specs.Stream.{advanced, When, Sent};
-ghost use Rattle.stream.specs.Pieces.{asked_in, question_bytes, symbol_entry, read_entry, call_bytes, note_number, note_kind_at, taken_count, step_bytes, step_from};
+ghost use Rattle.stream.specs.Pieces.{asked_in, question_bytes, symbol_entry, read_entry, call_bytes, note_number, note_kind_at, taken_count, told_count, step_bytes, step_from, step_with_numbers};
 ghost use Rattle.stream.specs.Groups.{flagged_bytes, span_bytes, callee_bytes, place_bytes, wrote_bytes, note_bytes, head_bytes, names_bytes, cause_bytes, named_bytes};
 ghost use Rattle.stream.specs.declared.NotePiece.TheVariants.{Nothing};
-ghost use Rattle.stream.specs.Bodies.{kind_number, kind_at, reason_number, reason_at, reason_field, stop_bytes, stop_from, stop_size, stop_place, pairs_of, lengths_of, questions_start, last_end};
+ghost use Rattle.stream.specs.Bodies.{kind_number, kind_at, reason_number, reason_at, reason_field, stop_bytes, stop_from, stop_with_numbers, stop_size, stop_place, pairs_of, lengths_of, questions_start, last_end};
 
 use layout::put;
 use value::Val;
@@ -295,6 +295,17 @@ impl From<NoteKind> for u64 {
     }
 }
 
+// What stands in a note's fields, each a number, and whether taken names stand beside it. (A field takes any number, also one that is no note's or that no note
+// has there: a `NotePiece` tells of none of these.)
+#[derive(Clone, Copy)]
+pub struct NoteNumbers {
+    pub kind: u64,
+    pub address: u64,
+    pub count: u64,
+    pub value: Val,
+    pub taken: bool,
+}
+
 // A number that stands for nothing here: no note, no stop or no reason has it.
 #[derive(Clone, Copy, PartialEq, Eq)]
 pub struct UnknownNumber;
@@ -349,16 +360,25 @@ fn put_wrote(part: &mut [u8], at: usize, wrote: Option<(usize, Val)>)
     put_val(part, at + 3, value);
 }
 
-// A note's fields up to the taken names.
+// A note's fields up to the taken names, its kind a number. (Inlined, so that a kind that is known costs no more than a number that is.)
 #[tactic(auto, using(crate::proofs::StepLaws::note_stored))]
+#[inline(always)]
+fn put_numbers(part: &mut [u8], at: usize, kind: u64, address: u64, count: u64, value: Val)
+    requires { at + 27 ≤ length part.old }
+    ensures { part.new ≡ sets part.old at (note_bytes kind address count value) }
+{
+    put::<1>(part, at, kind);
+    put::<8>(part, at + 1, address);
+    put::<4>(part, at + 9, count);
+    put_val(part, at + 13, value);
+}
+
+// The same of a kind.
 fn put_fields(part: &mut [u8], at: usize, kind: NoteKind, address: u64, count: u64, value: Val)
     requires { at + 27 ≤ length part.old }
     ensures { part.new ≡ sets part.old at (note_bytes (note_number kind) address count value) }
 {
-    put::<1>(part, at, u64::from(kind));
-    put::<8>(part, at + 1, address);
-    put::<4>(part, at + 9, count);
-    put_val(part, at + 13, value);
+    put_numbers(part, at, u64::from(kind), address, count, value);
 }
 
 // Its note up to the taken names, which are so many.
@@ -401,7 +421,33 @@ fn put_step(part: &mut [u8], at: usize, s: StepPiece, note: NotePiece, names: &[
     put_names(part, at + 61, names, count);
 }
 
-// The same of a step that took no names, whose zeros are known beforehand. (Inlined, so that a note that is known is not matched: one function for the two that
+// The same with a note by its numbers.
+#[tactic(auto, using(crate::proofs::StepLaws::numbers_stored))]
+fn put_numbered(
+    part: &mut [u8],
+    at: usize,
+    s: StepPiece,
+    note: NoteNumbers,
+    names: &[u8],
+    count: usize,
+)
+    requires { (at + (63 + 2 * count) ≤ length part.old) × ((2 + 2 * count ≤ length names.now) × (count ≡ told_count note.taken names.now)) }
+    ensures { part.new ≡ sets part.old at (step_bytes (step_with_numbers s note names.now)) }
+{
+    put_place(part, at, s);
+    put_wrote(part, at + 17, s.wrote);
+    put_numbers(
+        part,
+        at + 34,
+        note.kind,
+        note.address,
+        note.count,
+        note.value,
+    );
+    put_names(part, at + 61, names, count);
+}
+
+// A step that took no names, whose zeros are known beforehand. (Inlined, so that a note that is known is not matched: one function for the two that
 // call this costs each statement 29 instructions.)
 #[tactic(auto, using(crate::proofs::StepLaws::noted_stored))]
 #[inline(always)]
@@ -440,6 +486,42 @@ pub fn step(out: &mut [u8], at: u64, on: bool, s: StepPiece, note: NotePiece, na
         on,
         n,
         |part| put_step(part, at as usize, s, note, names, count),
+    )
+}
+
+// How many names stand beside a note by its numbers.
+fn told_count(taken: bool, names: &[u8]) -> usize
+    requires { 2 ≤ length names.now }
+    ensures { (result ≡ told_count taken names.now) × (result < 65536) }
+{
+    if taken {
+        layout::get::<2>(names, 0) as usize
+    } else {
+        0
+    }
+}
+
+// A step with a note by its numbers, whatever they are. (`step` has the notes that a run makes. Both are put by the same parts, in one order.)
+#[tactic(auto, using(crate::proofs::StreamLaws::sent, crate::proofs::StepLaws::length_numbered))]
+pub fn step_by_number(
+    out: &mut [u8],
+    at: u64,
+    on: bool,
+    s: StepPiece,
+    note: NoteNumbers,
+    names: &[u8],
+) -> u64
+    requires { 2 + 2 * told_count note.taken names.now ≤ length names.now }
+    ensures { Sent on out.old at (step_bytes (step_with_numbers s note names.now)) out.new result }
+{
+    let count = told_count(note.taken, names);
+    let n = 63 + 2 * count as u64;
+    send(
+        out,
+        at,
+        on,
+        n,
+        |part| put_numbered(part, at as usize, s, note, names, count),
     )
 }
 
@@ -592,20 +674,33 @@ fn number_of(reason: Option<Reason>) -> u64
     reason.map_or(0, u64::from)
 }
 
+// What stands in a stop's fields, its kind and its reason by their numbers. (A field takes any number, also one that no kind and no reason has: a `StopPiece`
+// tells of none of these.)
+#[derive(Clone, Copy)]
+pub struct StopNumbers {
+    pub kind: u64,
+    pub reason: u64,
+    pub address: Option<u64>,
+    pub number: u64,
+    pub node: u64,
+    pub name: u64,
+    pub value: Val,
+}
+
 // A stop up to its address.
 #[tactic(auto, using(crate::proofs::BodyLaws::cause_stored))]
-fn put_cause(part: &mut [u8], s: StopPiece)
+fn put_cause(part: &mut [u8], s: StopNumbers)
     requires { 11 ≤ length part.old }
-    ensures { part.new ≡ sets part.old 0 (cause_bytes (kind_number s.kind) (reason_field s.reason) s.address) }
+    ensures { part.new ≡ sets part.old 0 (cause_bytes s.kind s.reason s.address) }
 {
-    put::<1>(part, 0, u64::from(s.kind));
-    put::<1>(part, 1, number_of(s.reason));
+    put::<1>(part, 0, s.kind);
+    put::<1>(part, 1, s.reason);
     put_flagged(part, 2, s.address);
 }
 
 // The rest of it.
 #[tactic(auto, using(crate::proofs::BodyLaws::named_stored))]
-fn put_named(part: &mut [u8], s: StopPiece)
+fn put_named(part: &mut [u8], s: StopNumbers)
     requires { stop_size ≤ length part.old }
     ensures { part.new ≡ sets part.old 11 (named_bytes s.number s.node s.name s.value) }
 {
@@ -615,14 +710,34 @@ fn put_named(part: &mut [u8], s: StopPiece)
     put_val(part, 25, s.value);
 }
 
-// Stop.
+// Stop, by its numbers, whatever they are. (`stop` stands on this: it writes nothing of its own.)
 #[tactic(auto, using(crate::proofs::BodyLaws::stop_stored))]
+pub fn stop_by_number(part: &mut [u8], s: StopNumbers)
+    requires { stop_size ≤ length part.old }
+    ensures { part.new ≡ sets part.old 0 (stop_bytes (stop_with_numbers s)) }
+{
+    put_cause(part, s);
+    put_named(part, s);
+}
+
+// Stop, which is of a kind.
+#[tactic(auto, using(crate::proofs::BodyLaws::kind_stored))]
 pub fn stop(part: &mut [u8], s: StopPiece)
     requires { stop_size ≤ length part.old }
     ensures { part.new ≡ sets part.old 0 (stop_bytes (stop_from s)) }
 {
-    put_cause(part, s);
-    put_named(part, s);
+    stop_by_number(
+        part,
+        StopNumbers {
+            kind: u64::from(s.kind),
+            reason: number_of(s.reason),
+            address: s.address,
+            number: s.number,
+            node: s.node,
+            name: s.name,
+            value: s.value,
+        },
+    );
 }
 
 // Counts: blocks entered, steps recorded, and units spent.

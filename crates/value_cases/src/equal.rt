@@ -12,6 +12,7 @@ pub const CASES: Cases = Cases {
     path: "equal.bin",
     length: 9,
     rows: 32 * GROUP,
+    together: GROUP,
 };
 
 // The numbers that both operands take at a width.

@@ -6,40 +6,65 @@ ghost use Rattle.std.specs.Prelude.{◌<◌};
 mod equal;
 mod rows;
 
+use std::io::Read;
 use std::rt::Files;
 use std::{fs, io};
 
-// A file of rows of one length, and what they are about.
+// A file of rows of one length, and what they are about. So many of them are read at a time: where the file ends within those, none of them agrees.
 #[derive(Clone, Copy)]
 pub struct Cases {
     pub what: &'static str,
     pub path: &'static str,
     pub length: usize,
     pub rows: usize,
+    pub together: usize,
 }
 
-// Says how many of a file's rows agree; none does where it cannot be read. A row may count on its number.
+// How many of a file's rows agree. No more is read of it than they have.
+fn agreeing<R: Read, F: Fn(usize, &[u8]) -> anyhow::Result<bool>>(
+    rt: &impl Alloc,
+    reader: &mut R,
+    cases: Cases,
+    agrees: F,
+) -> io::Result<usize>
+    requires long { 0 < cases.length }
+    requires some { 0 < cases.together }
+    requires callable { F.IsAlwaysCallable agrees }
+{
+    let size = cases.length.saturating_mul(cases.together);
+    let mut page = vec![in rt.alloc(); 0u8; size]?;
+    let mut good: usize = 0;
+    for first in (0..cases.rows).step_by(cases.together) {
+        if reader.read_exact(&mut page).is_ok() {
+            let more = page
+                .chunks_exact(cases.length)
+                .enumerate()
+                .filter(|(i, row)| agrees(first.wrapping_add(*i), *row).is_ok_and(|good| good))
+                .count();
+            good = good.wrapping_add(more);
+        }
+    }
+    Ok(good)
+}
+
+// Says how many of a file's rows agree; none does where it cannot be opened. A row may count on its number.
 fn compare<F: Fn(usize, &[u8]) -> anyhow::Result<bool>>(
     rt: &(impl Files + Alloc + Print),
     cases: Cases,
     agrees: F,
 ) -> io::Result<()>
     requires long { 0 < cases.length }
+    requires some { 0 < cases.together }
     requires callable { F.IsAlwaysCallable agrees }
 {
     let Cases {
         what,
         path,
-        length,
         rows,
+        ..
     } = cases;
-    let good = match fs::read(rt, path) {
-        Ok(file) => file
-            .chunks_exact(length)
-            .take(rows)
-            .enumerate()
-            .filter(|(i, row)| agrees(*i, *row).is_ok_and(|good| good))
-            .count(),
+    let good = match fs::open(rt, path) {
+        Ok(mut reader) => agreeing(rt, &mut reader, cases, agrees)?,
         Err(_) => 0,
     };
     println!(rt; "{what}: {good} of {rows}")

@@ -9,6 +9,7 @@ pub const MIXED: Cases = Cases {
     path: "mixed.bin",
     length: 31,
     rows: 4000,
+    together: 1,
 };
 
 pub const CASTS: Cases = Cases {
@@ -16,6 +17,7 @@ pub const CASTS: Cases = Cases {
     path: "casts.bin",
     length: 22,
     rows: 1536,
+    together: 1,
 };
 
 pub const TYPES: Cases = Cases {
@@ -23,6 +25,7 @@ pub const TYPES: Cases = Cases {
     path: "types.bin",
     length: 69,
     rows: 314,
+    together: 1,
 };
 
 fn take_answer(row: &mut &[u8]) -> anyhow::Result<Result<Val, ArithmeticError>> {

@@ -1,26 +1,48 @@
 // A case run, and whether all that comes of it is what the original answered.
+ghost use Rattle.std.specs.Prelude.{◌≡◌, IfOk, IfSome, length};
+
 use crate::cases::{Case, Constant, Run, Store};
+use crate::coding::LONGEST;
 use files::refusal::Refusal;
 use std::alloc::Global;
+use std::io;
 
-// Nowhere 0, so that a byte that was cleared is told from one that was left.
-fn mark(i: usize) -> u8 {
-    (i % 251 + 1) as u8
+// What a lent buffer holds before a call, nowhere 0, so that a byte that was cleared is told from one that was left; and what a cleared one holds: as many bytes
+// as any buffer has.
+#[derive(Drop)]
+pub struct Patterns {
+    marks: Vec<u8>,
+    zeros: Vec<u8>,
 }
 
-// A buffer to lend, and what it holds before a call.
-fn room(alloc: Global, size: usize) -> anyhow::Result<Vec<u8>> {
-    Ok((0..size).map(mark).collect(alloc)?)
+impl Patterns {
+    pub fn new(alloc: Global) -> io::Result<Self> {
+        Ok(Self {
+            marks: (0..LONGEST).map(|i| (i % 251 + 1) as u8).collect(alloc)?,
+            zeros: vec![in alloc; 0u8; LONGEST]?,
+        })
+    }
+
+    // What stands beyond what a call wrote.
+    fn beyond(&self, cleared: bool) -> &[u8] {
+        if cleared { &self.zeros } else { &self.marks }
+    }
+
+    // A buffer to lend, with what it holds before a call; none where it would be longer than any.
+    fn room(&self, alloc: Global, size: usize) -> io::Result<Option<Vec<u8>>>
+        ensures { IfOk result (λ r. IfSome r (λ v. length v.items ≡ size)) }
+    {
+        match self.marks.get(..size) {
+            Some(bytes) => Ok(Some(bytes.to_vec(alloc)?)),
+            None => Ok(None),
+        }
+    }
 }
 
-// Whether a buffer holds what was written to its front, and beyond it 0 or what it held before.
-fn holds(part: &[u8], front: &[u8], cleared: bool) -> bool {
-    part.starts_with(front)
-        && part
-            .iter()
-            .enumerate()
-            .skip(front.len())
-            .all(|(i, byte)| *byte == if cleared { 0 } else { mark(i) })
+// Whether a buffer holds what was written to its front, and beyond it what a pattern has there.
+fn holds(part: &[u8], front: &[u8], beyond: &[u8]) -> bool {
+    part.strip_prefix(front)
+        .is_some_and(|rest| beyond.get(front.len()..part.len()) == Some(rest))
 }
 
 // Refusals that come after the run has begun leave nothing of it in either buffer.
@@ -29,13 +51,21 @@ fn is_late(number: u32) -> bool {
 }
 
 // Whether a workspace is as it must be after such an answer.
-fn is_left(workspace: &[u8], number: u32) -> bool {
-    holds(workspace, b"", number == 0 || is_late(number))
+fn is_left(patterns: &Patterns, workspace: &[u8], number: u32) -> bool {
+    holds(
+        workspace,
+        b"",
+        patterns.beyond(number == 0 || is_late(number)),
+    )
 }
 
-fn run_agrees(alloc: Global, case: Run, store: &Store) -> anyhow::Result<bool> {
-    let mut buffer = room(alloc, case.record)?;
-    let mut workspace = room(alloc, case.workspace)?;
+fn run_agrees(alloc: Global, patterns: &Patterns, case: Run, store: &Store) -> io::Result<bool> {
+    let Some(mut buffer) = patterns.room(alloc, case.record)? else {
+        return Ok(false);
+    };
+    let Some(mut workspace) = patterns.room(alloc, case.workspace)? else {
+        return Ok(false);
+    };
     let found = emulate::run(
         &store.routine,
         &store.world,
@@ -48,21 +78,28 @@ fn run_agrees(alloc: Global, case: Run, store: &Store) -> anyhow::Result<bool> {
     let record: &[u8] = if number == 0 { &store.record } else { b"" };
     Ok(
         found == case.answer
-            && holds(&buffer, record, is_late(number))
-            && is_left(&workspace, number),
+            && holds(&buffer, record, patterns.beyond(is_late(number)))
+            && is_left(patterns, &workspace, number),
     )
 }
 
-fn constant_agrees(alloc: Global, case: Constant, store: &Store) -> anyhow::Result<bool> {
-    let mut workspace = room(alloc, case.workspace)?;
+fn constant_agrees(
+    alloc: Global,
+    patterns: &Patterns,
+    case: Constant,
+    store: &Store,
+) -> io::Result<bool> {
+    let Some(mut workspace) = patterns.room(alloc, case.workspace)? else {
+        return Ok(false);
+    };
     let found = emulate::constant_value(&store.routine, case.node, &mut workspace);
-    Ok(found == case.answer && is_left(&workspace, case.answer.refusal))
+    Ok(found == case.answer && is_left(patterns, &workspace, case.answer.refusal))
 }
 
 // Whether a case comes to what it says, with buffers of the lengths that it tells.
-pub fn agrees(alloc: Global, case: Case, store: &Store) -> anyhow::Result<bool> {
+pub fn agrees(alloc: Global, patterns: &Patterns, case: Case, store: &Store) -> io::Result<bool> {
     match case {
-        Case::Run(run) => run_agrees(alloc, run, store),
-        Case::Constant(constant) => constant_agrees(alloc, constant, store),
+        Case::Run(run) => run_agrees(alloc, patterns, run, store),
+        Case::Constant(constant) => constant_agrees(alloc, patterns, constant, store),
     }
 }

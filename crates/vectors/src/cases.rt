@@ -5,6 +5,7 @@ use anyhow::ensure;
 use bytes::Buf;
 use emulate::Answer;
 use std::alloc::Global;
+use std::io;
 
 #[derive(Drop)]
 pub struct Store {
@@ -15,13 +16,14 @@ pub struct Store {
 }
 
 impl Store {
-    pub fn new(alloc: Global) -> Self {
-        Self {
-            routine: Vec::new(alloc),
-            world: Vec::new(alloc),
-            call: Vec::new(alloc),
-            record: Vec::new(alloc),
-        }
+    // Each sort has its room from the start, so that what cannot be put into it is not well made.
+    pub fn new(alloc: Global) -> io::Result<Self> {
+        Ok(Self {
+            routine: Vec::with_capacity(alloc, LONGEST)?,
+            world: Vec::with_capacity(alloc, LONGEST)?,
+            call: Vec::with_capacity(alloc, LONGEST)?,
+            record: Vec::with_capacity(alloc, LONGEST)?,
+        })
     }
 }
 
@@ -47,21 +49,14 @@ pub enum Case {
     Constant(Constant),
 }
 
-// The length of a lent buffer.
-fn room(case: &mut &[u8]) -> anyhow::Result<usize> {
-    let size = case.try_get_u32_le()? as usize;
-    ensure!(size <= LONGEST, "a buffer is too long");
-    Ok(size)
-}
-
 // routine, world, call, record buffer length u32, workspace length u32, number u8, length u32 (or the faulty node's number), record
 fn take_run(case: &mut &[u8], store: &mut Store) -> anyhow::Result<Run> {
     follow(case, &mut store.routine)?;
     follow(case, &mut store.world)?;
     follow(case, &mut store.call)?;
     let run = Run {
-        record: room(case)?,
-        workspace: room(case)?,
+        record: case.try_get_u32_le()? as usize,
+        workspace: case.try_get_u32_le()? as usize,
         answer: Answer {
             number: case.try_get_u8()? as u32,
             length: case.try_get_u32_le()?,
@@ -79,7 +74,7 @@ fn take_constant(case: &mut &[u8], store: &mut Store) -> anyhow::Result<Constant
     follow(case, &mut store.routine)?;
     Ok(Constant {
         node: case.try_get_u32_le()?,
-        workspace: room(case)?,
+        workspace: case.try_get_u32_le()? as usize,
         answer: emulate::Constant {
             refusal: case.try_get_u8()? as u32,
             known: case.try_get_u8()? == 1,

@@ -8,12 +8,16 @@ pub const LONGEST: usize = 131072;
 // A run of bytes: a number below 128 is one less than their count, another 127 more than a count of zeros.
 fn piece(case: &mut &[u8], file: &mut Vec<u8>) -> anyhow::Result<()> {
     let count = case.try_get_u8()? as usize;
+    let size = if count < 128 { count + 1 } else { count - 127 };
+    ensure!(
+        size <= LONGEST.saturating_sub(file.len()),
+        "a file is too long"
+    );
     if count < 128 {
-        let bytes = case.split_off(..count + 1).context("the file ends early")?;
+        let bytes = case.split_off(..size).context("the file ends early")?;
         file.extend_from_slice(bytes)?;
     } else {
-        ensure!(file.len() <= LONGEST, "a file is too long");
-        file.resize(file.len() + (count - 127), 0)?;
+        file.resize(file.len() + size, 0)?;
     }
     Ok(())
 }

@@ -7,11 +7,13 @@ mod coding;
 mod replay;
 mod tally;
 
-use anyhow::Context;
-use std::fs;
+use std::fs::File;
+use std::io;
 
-fn main(rt: HostRuntime) -> anyhow::Result<()> {
+fn main(rt: HostRuntime) -> io::Result<()> {
     let path = "vectors.bin";
-    let file = fs::read(&rt, path).context(path)?;
-    replay::replay(&rt, rt.alloc(), &file)
+    match File::open(&rt, path) {
+        Ok(file) => replay::replay(&rt, rt.alloc(), file),
+        Err(e) => eprintln!(rt; "{path}: {e}"),
+    }
 }

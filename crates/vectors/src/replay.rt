@@ -1,32 +1,77 @@
 // The cases of the file, one after the other, each run and compared.
+use crate::answers::Patterns;
 use crate::cases::Store;
 use crate::tally::Tally;
 use crate::{answers, cases};
-use anyhow::{Context, ensure};
-use bytes::Buf;
 use std::alloc::Global;
+use std::io;
+use std::io::Read;
 
-// The file's first bytes.
-const KIND: &[u8] = b"VEC2";
+// The file's first bytes, `VEC2`, as a number.
+const KIND: u32 = 0x3243_4556;
 
-// `VEC2`, the count of cases u32, and for each its length u32 and its bytes. A case that is not well made ends the program.
-pub fn replay(rt: &impl Print, alloc: Global, mut file: &[u8]) -> anyhow::Result<()> {
-    let kind = file.split_off(..KIND.len()).context("the file ends early")?;
-    ensure!(kind == KIND, "it is no file of cases");
-    let count = file.try_get_u32_le()?;
+// The most bytes of a case.
+const LONGEST: usize = 65536;
+
+// The next number of the file.
+fn word<R: Read>(reader: &mut R) -> Option<u32> {
+    let mut bytes = [0u8; 4];
+    reader.read_exact(&mut bytes).ok()?;
+    Some(u32::from_le_bytes(bytes))
+}
+
+// The file's first words: `VEC2` and the count of cases, more than any file has where it ends there; 0 for another file.
+fn count<R: Read>(rt: &impl Print, reader: &mut R) -> io::Result<u32> {
+    if word(reader) != Some(KIND) {
+        println!(rt; "it is no file of cases")?;
+        return Ok(0);
+    }
+    Ok(word(reader).unwrap_or(u32::MAX))
+}
+
+// The bytes of the next case, behind their length u32: whether the file has them.
+fn next<R: Read>(reader: &mut R, case: &mut Vec<u8>) -> io::Result<bool> {
+    let size = word(reader).map_or(usize::MAX, |size| size as usize);
+    if LONGEST < size {
+        return Ok(false);
+    }
+    case.resize(size, 0)?;
+    Ok(reader.read_exact(case).is_ok())
+}
+
+// So many cases, up to the first that is not well made.
+fn compare<R: Read>(
+    rt: &impl Print,
+    alloc: Global,
+    reader: &mut R,
+    count: u32,
+) -> io::Result<Tally> {
     let mut tally = Tally::default();
-    let mut store = Store::new(alloc);
+    let patterns = Patterns::new(alloc)?;
+    let mut store = Store::new(alloc)?;
+    let mut bytes = Vec::new(alloc);
     for i in 0..count {
-        let size = file.try_get_u32_le()? as usize;
-        let bytes = file.split_off(..size).context("the file ends early")?;
-        let case = cases::take(bytes, &mut store)?;
-        let good = answers::agrees(alloc, case, &store)?;
+        if !next(reader, &mut bytes)? {
+            break;
+        }
+        let Ok(case) = cases::take(&bytes, &mut store) else {
+            break;
+        };
+        let good = answers::agrees(alloc, &patterns, case, &store)?;
         if !good {
             println!(rt; "not as the original answered: case {i}")?;
         }
         tally.count(case, good);
     }
-    ensure!(file.is_empty(), "the file goes on after its cases");
-    tally.say(rt, count)?;
-    Ok(())
+    Ok(tally)
+}
+
+// `VEC2`, the count of cases u32, and for each its length u32 and its bytes. Nothing comes after the last one.
+pub fn replay<R: Read + Drop>(rt: &impl Print, alloc: Global, mut reader: R) -> io::Result<()> {
+    let count = count(rt, &mut reader)?;
+    let tally = compare(rt, alloc, &mut reader, count)?;
+    if reader.read(&mut [0; 1])? != 0 {
+        println!(rt; "the file goes on after its cases")?;
+    }
+    tally.say(rt, count)
 }

@@ -16,4 +16,4 @@ returns c =
     c.named.ensures (base_of (pieces s)) (YieldsList.runs (YieldsList-from_filter {v = λ x. x.now} {ys = pieces s} _ (λ w. not (dropped w))
     (YieldsList-at c.filter-words.ensures.source (YieldsList-from_slice_split _ (λ b. eqb b 32) s c.split.ensures.rest c.split.ensures.done c.split.ensures.closure (λ x b q k. search (rules, tests))))
     c.filter-words.ensures.closure (λ x b q k. search (rules, tests))))
-    ∙ ap (λ (u : Bool). named u (base_of (pieces s))) c.has.ensures
+    ∙ ap (λ (u : Bool). named u (base_of (pieces s))) c.has_unsigned.ensures
