@@ -6,6 +6,7 @@ mod cases;
 use std::alloc::Global;
 use std::fs::File;
 use std::io;
+use std::io::Read;
 
 // The cases stand in pages of so many bytes, the last one in fewer.
 const PAGE: u64 = 65536;
@@ -13,8 +14,10 @@ const PAGE: u64 = 65536;
 // All pages, up to one with no case. Nothing says that a file ends, so the pages are counted.
 fn compare(rt: &(impl Alloc + Print), alloc: Global, mut file: File) -> io::Result<()> {
     let mut count: usize = 0;
+    let mut page = Vec::new(alloc);
     for _ in 0..1000 {
-        let page = reading::read_full(alloc, &mut file, PAGE)?;
+        page.clear();
+        file.by_ref().take(PAGE).read_to_end(&mut page)?;
         let more = cases::compare_page(rt, &page)?;
         if more == 0 {
             break;
