@@ -46,8 +46,8 @@ fn printed(s: &[u8], lo: u8, hi: u8) -> bool
     ok
 }
 
-// Whether s comes before t: at the first byte that differs, or where s ends and t goes on. (The library's `<` makes an order of each two bytes and asks it, nearly
-// twice the work where names begin alike, as names do.)
+// Whether s comes before t: at the first byte that differs, or where s ends and t goes on. (The library's `<` makes an order of each two bytes and asks it: 14
+// instructions for 10 at each byte where names are alike, as their beginnings are.)
 fn precedes(s: &[u8], t: &[u8]) -> bool
     ensures { result ≡ before s.now t.now }
 {

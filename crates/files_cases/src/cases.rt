@@ -1,13 +1,30 @@
 // Cases in pages: a name, the expected number and node, and the files, each coded as pieces that stand there so many times.
-ghost use Rattle.std.specs.Prelude.{◌≤◌, IfOk, length};
+ghost use Rattle.std.specs.Prelude.{◌≤◌, length};
 
 use bytes::Buf;
 use files::refusal::Refusal;
-use std::alloc::Allocator;
 use std::io;
 
 // The most bytes that a file may have.
 const SPACE: usize = 65536;
+
+// Where the files of a case are put together.
+#[derive(Drop)]
+pub struct Space {
+    routine: [u8; SPACE],
+    world: [u8; SPACE],
+    call: [u8; SPACE],
+}
+
+impl Space {
+    pub fn new() -> Self {
+        Self {
+            routine: [0; SPACE],
+            world: [0; SPACE],
+            call: [0; SPACE],
+        }
+    }
+}
 
 // The bytes at the front of a page, so many, or all that are left.
 fn front<'a>(page: &mut &'a [u8], size: usize) -> &'a [u8] {
@@ -40,49 +57,53 @@ fn fill(part: &mut [u8], bytes: &[u8]) {
     }
 }
 
-// The bytes, so many times, at a file's end. Nothing is put past the space that there is.
-fn repeat<A: Allocator>(bytes: &[u8], times: u32, file: &mut Vec<u8, A>) -> io::Result<()>
-    requires { length file.old.items ≤ 65536 }
-    ensures { length file.new.items ≤ 65536 }
+// The bytes, so many times, at the end of what a file has so far: where it ends then. Nothing is put past the space that there is.
+fn repeat(bytes: &[u8], times: u32, file: &mut [u8], start: usize) -> usize
+    requires { start ≤ length file.old }
+    ensures { result ≤ length file.new }
 {
     if bytes.is_empty() {
-        return Ok(());
+        return start;
     }
-    let start = file.len();
-    let room = SPACE - start;
+    let room = file.len() - start;
     let whole = room - room % bytes.len();
     let size = whole.min(bytes.len().saturating_mul(times as usize));
-    file.resize(start + size, 0)?;
-    fill(&mut file[start..], bytes);
-    Ok(())
+    let end = start + size;
+    fill(&mut file[start..end], bytes);
+    end
 }
 
-// The file coded at the front of a page.
-fn unpack<R: Alloc>(rt: &R, page: &mut &[u8]) -> io::Result<Vec<u8, R::A>>
-    ensures { IfOk result (λ v. length v.items ≤ 65536) }
+// The file coded at the front of a page, put together: where it ends.
+fn unpack(page: &mut &[u8], file: &mut [u8; SPACE]) -> usize
+    ensures in_bounds { result ≤ length file.new }
+    ensures short { result ≤ 65536 }
 {
-    let mut file = Vec::new(rt.alloc());
+    let mut done = 0;
     for _ in 0..half(page) {
         let times = word(page);
         let size = word(page) as usize;
-        repeat(front(page, size), times, &mut file)?;
+        done = repeat(front(page, size), times, file, done);
     }
-    Ok(file)
+    done
 }
 
 // A case of three files.
-fn run(rt: &impl Alloc, page: &mut &[u8]) -> io::Result<Result<(), Refusal>> {
-    let routine = unpack(rt, page)?;
-    let world = unpack(rt, page)?;
-    let call = unpack(rt, page)?;
-    Ok(files::check(&routine, &world, &call))
+fn run(page: &mut &[u8], space: &mut Space) -> Result<(), Refusal> {
+    let routine = unpack(page, &mut space.routine);
+    let world = unpack(page, &mut space.world);
+    let call = unpack(page, &mut space.call);
+    files::check(
+        &space.routine[..routine],
+        &space.world[..world],
+        &space.call[..call],
+    )
 }
 
 // A case of a node and its routine.
-fn constant(rt: &impl Alloc, page: &mut &[u8]) -> io::Result<Result<(), Refusal>> {
+fn constant(page: &mut &[u8], space: &mut Space) -> Result<(), Refusal> {
     let node = word(page) as usize;
-    let routine = unpack(rt, page)?;
-    Ok(files::check_constant(&routine, node))
+    let routine = unpack(page, &mut space.routine);
+    files::check_constant(&space.routine[..routine], node)
 }
 
 // Reports a case whose files are not refused by this number, or not with this node.
@@ -105,27 +126,27 @@ fn report(
 }
 
 // The case at the front of a page.
-fn compare(rt: &(impl Alloc + Print), page: &mut &[u8]) -> io::Result<()> {
+fn compare(rt: &impl Print, page: &mut &[u8], space: &mut Space) -> io::Result<()> {
     let size = byte(page) as usize;
     let name = front(page, size);
     let number = byte(page) as u32;
     let node = word(page);
     let checked = match byte(page) {
-        1 => constant(rt, page)?,
-        _ => run(rt, page)?,
+        1 => constant(page, space),
+        _ => run(page, space),
     };
     report(rt, name, number, node, checked)
 }
 
 // The cases of a page: how many there are. It ends at a name of no byte.
-pub fn compare_page(rt: &(impl Alloc + Print), mut page: &[u8]) -> io::Result<usize> {
+pub fn compare_page(rt: &impl Print, mut page: &[u8], space: &mut Space) -> io::Result<usize> {
     let most = page.len();
     // Each case has bytes of its own.
     for count in 0..most {
         if page.first().is_none_or(|size| *size == 0) {
             return Ok(count);
         }
-        compare(rt, &mut page)?;
+        compare(rt, &mut page, space)?;
     }
     Ok(most)
 }

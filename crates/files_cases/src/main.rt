@@ -3,22 +3,20 @@
 
 mod cases;
 
-use std::alloc::Global;
 use std::fs::File;
 use std::io;
-use std::io::Read;
 
 // The cases stand in pages of so many bytes, the last one in fewer.
-const PAGE: u64 = 65536;
+const PAGE: usize = 65536;
 
 // All pages, up to one with no case. Nothing says that a file ends, so the pages are counted.
-fn compare(rt: &(impl Alloc + Print), alloc: Global, mut file: File) -> io::Result<()> {
+fn compare(rt: &impl Print, mut file: File) -> io::Result<()> {
     let mut count: usize = 0;
-    let mut page = Vec::new(alloc);
+    let mut page = [0; PAGE];
+    let mut space = cases::Space::new();
     for _ in 0..1000 {
-        page.clear();
-        file.by_ref().take(PAGE).read_to_end(&mut page)?;
-        let more = cases::compare_page(rt, &page)?;
+        let size = reading::read_full(&mut file, &mut page)?;
+        let more = cases::compare_page(rt, &page[..size], &mut space)?;
         if more == 0 {
             break;
         }
@@ -30,7 +28,7 @@ fn compare(rt: &(impl Alloc + Print), alloc: Global, mut file: File) -> io::Resu
 fn main(rt: HostRuntime) -> io::Result<()> {
     let path = "cases.bin";
     match File::open(&rt, path) {
-        Ok(file) => compare(&rt, rt.alloc(), file),
+        Ok(file) => compare(&rt, file),
         Err(e) => eprintln!(rt; "{path}: {e}"),
     }
 }

@@ -1,55 +1,24 @@
 // Input read whole, up to a limit.
 #![tactic(auto)]
 
-ghost use Rattle.std.specs.Prelude.{◌≡◌, ◌≤◌, IfOk, IfSome, length, take};
+ghost use Rattle.std.specs.Prelude.{◌≡◌, IfOk, IfSome, length, take};
+ghost use Rattle.std.specs.Io.{ReadsAtMost};
 
-use std::alloc::Global;
 use std::io;
 use std::io::Read;
 
-// The bytes that a reader gives, at most so many.
-pub fn read_full<R: Read + Drop>(alloc: Global, reader: R, most: u64) -> io::Result<Vec<u8>>
-    ensures all { IfSome (R.remaining reader) (λ bytes. IfOk result (λ v. v.items ≡ take most bytes)) }
-    ensures short { IfOk result (λ v. length v.items ≤ most) }
+// Reads until the buffer is full or the input ends: how many bytes stand at its start.
+pub fn read_full<R: Read>(reader: &mut R, buffer: &mut [u8]) -> io::Result<usize>
+    ensures all { IfSome (R.remaining reader.old) (λ bytes. IfOk result (λ n. take n buffer.new ≡ take (length buffer.new) bytes)) }
+    ensures short { ReadsAtMost result buffer.new }
 {
-    let mut bytes = Vec::new(alloc);
-    reader.take(most).read_to_end(&mut bytes)?;
-    // Nothing is cut off: that no more come is said by the library only where a reader's bytes are known.
-    bytes.truncate(most as usize);
-    Ok(bytes)
-}
-
-#[cfg(test)]
-mod tests {
-    use super::*;
-
-    // A reader that breaks off behind its bytes.
-    #[derive(Drop)]
-    struct Torn<'a> {
-        bytes: &'a [u8],
-    }
-
-    impl<'a> Read for Torn<'a> {
-        fn read(&mut self, buf: &mut [u8]) -> io::Result<usize> {
-            if self.bytes.is_empty() {
-                return Err(io::ErrorKind::BrokenPipe.into());
-            }
-            self.bytes.read(buf)
+    let mut done = 0;
+    while done < buffer.len() {
+        let more = reader.read(&mut buffer[done..])?;
+        if more == 0 {
+            break;
         }
+        done += more;
     }
-
-    #[test]
-    fn all_is_read(rt: HostRuntime) -> io::Result<()> {
-        let whole = read_full(rt.alloc(), b"twelve bytes".as_slice(), 65536)?;
-        assert!(rt; whole.as_slice() == b"twelve bytes".as_slice());
-        let front = read_full(rt.alloc(), b"twelve bytes".as_slice(), 6)?;
-        assert!(rt; front.as_slice() == b"twelve".as_slice());
-        Ok(())
-    }
-
-    #[test]
-    fn an_error_is_passed_on(rt: HostRuntime) {
-        let torn = Torn { bytes: b"twelve" };
-        assert!(rt; read_full(rt.alloc(), torn, 65536).is_err());
-    }
+    Ok(done)
 }

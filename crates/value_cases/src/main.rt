@@ -1,7 +1,7 @@
 // Runs the value layer on rows that the original answered, and says how many rows of each file agree.
 #![tactic(auto)]
 
-ghost use Rattle.std.specs.Prelude.{◌<◌};
+ghost use Rattle.std.specs.Prelude.{◌<◌, ◌*◌, ◌≤◌};
 
 mod equal;
 mod rows;
@@ -9,6 +9,9 @@ mod rows;
 use std::io::Read;
 use std::rt::Files;
 use std::{fs, io};
+
+// The most bytes that are read at a time.
+const PAGE: usize = 16200;
 
 // A file of rows of one length, and what they are about. So many of them are read at a time: where the file ends within those, none of them agrees.
 #[derive(Clone, Copy)]
@@ -22,20 +25,20 @@ pub struct Cases {
 
 // How many of a file's rows agree. No more is read of it than they have.
 fn agreeing<R: Read, F: Fn(usize, &[u8]) -> anyhow::Result<bool>>(
-    rt: &impl Alloc,
     reader: &mut R,
     cases: Cases,
     agrees: F,
-) -> io::Result<usize>
+) -> usize
     requires long { 0 < cases.length }
     requires some { 0 < cases.together }
+    requires fits { cases.length * cases.together ≤ 16200 }
     requires callable { F.IsAlwaysCallable agrees }
 {
-    let size = cases.length.saturating_mul(cases.together);
-    let mut page = vec![in rt.alloc(); 0u8; size]?;
+    let mut space = [0; PAGE];
+    let page = &mut space[..cases.length * cases.together];
     let mut good: usize = 0;
     for first in (0..cases.rows).step_by(cases.together) {
-        if reader.read_exact(&mut page).is_ok() {
+        if reader.read_exact(page).is_ok() {
             let more = page
                 .chunks_exact(cases.length)
                 .enumerate()
@@ -44,17 +47,18 @@ fn agreeing<R: Read, F: Fn(usize, &[u8]) -> anyhow::Result<bool>>(
             good = good.wrapping_add(more);
         }
     }
-    Ok(good)
+    good
 }
 
 // Says how many of a file's rows agree; none does where it cannot be opened. A row may count on its number.
 fn compare<F: Fn(usize, &[u8]) -> anyhow::Result<bool>>(
-    rt: &(impl Files + Alloc + Print),
+    rt: &(impl Files + Print),
     cases: Cases,
     agrees: F,
 ) -> io::Result<()>
     requires long { 0 < cases.length }
     requires some { 0 < cases.together }
+    requires fits { cases.length * cases.together ≤ 16200 }
     requires callable { F.IsAlwaysCallable agrees }
 {
     let Cases {
@@ -64,7 +68,7 @@ fn compare<F: Fn(usize, &[u8]) -> anyhow::Result<bool>>(
         ..
     } = cases;
     let good = match fs::open(rt, path) {
-        Ok(mut reader) => agreeing(rt, &mut reader, cases, agrees)?,
+        Ok(mut reader) => agreeing(&mut reader, cases, agrees),
         Err(_) => 0,
     };
     println!(rt; "{what}: {good} of {rows}")

@@ -1,29 +1,26 @@
 // The cases of the file. What a case lends comes in four sorts: the three files, and the record; the last bytes of each sort stay, since the
 // next case follows from them.
-use crate::coding::{LONGEST, follow};
+use crate::coding::{Sort, follow};
 use anyhow::ensure;
 use bytes::Buf;
 use emulate::Answer;
-use std::alloc::Global;
-use std::io;
 
 #[derive(Drop)]
 pub struct Store {
-    pub routine: Vec<u8>,
-    pub world: Vec<u8>,
-    pub call: Vec<u8>,
-    pub record: Vec<u8>,
+    pub routine: Sort,
+    pub world: Sort,
+    pub call: Sort,
+    pub record: Sort,
 }
 
 impl Store {
-    // Each sort has its room from the start, so that what cannot be put into it is not well made.
-    pub fn new(alloc: Global) -> io::Result<Self> {
-        Ok(Self {
-            routine: Vec::with_capacity(alloc, LONGEST)?,
-            world: Vec::with_capacity(alloc, LONGEST)?,
-            call: Vec::with_capacity(alloc, LONGEST)?,
-            record: Vec::with_capacity(alloc, LONGEST)?,
-        })
+    pub fn new() -> Self {
+        Self {
+            routine: Sort::new(),
+            world: Sort::new(),
+            call: Sort::new(),
+            record: Sort::new(),
+        }
     }
 }
 

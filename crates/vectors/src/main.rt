@@ -13,7 +13,7 @@ use std::io;
 fn main(rt: HostRuntime) -> io::Result<()> {
     let path = "vectors.bin";
     match File::open(&rt, path) {
-        Ok(file) => replay::replay(&rt, rt.alloc(), file),
+        Ok(file) => replay::replay(&rt, file),
         Err(e) => eprintln!(rt; "{path}: {e}"),
     }
 }

@@ -1,9 +1,8 @@
 // The cases of the file, one after the other, each run and compared.
-use crate::answers::Patterns;
+use crate::answers::Rooms;
 use crate::cases::Store;
 use crate::tally::Tally;
 use crate::{answers, cases};
-use std::alloc::Global;
 use std::io;
 use std::io::Read;
 
@@ -29,35 +28,29 @@ fn count<R: Read>(rt: &impl Print, reader: &mut R) -> io::Result<u32> {
     Ok(word(reader).unwrap_or(u32::MAX))
 }
 
-// The bytes of the next case, behind their length u32: whether the file has them.
-fn next<R: Read>(reader: &mut R, case: &mut Vec<u8>) -> io::Result<bool> {
-    let size = word(reader).map_or(usize::MAX, |size| size as usize);
-    if LONGEST < size {
-        return Ok(false);
-    }
-    case.resize(size, 0)?;
-    Ok(reader.read_exact(case).is_ok())
+// The bytes of the next case, behind their length u32; none where they are too many, or the file has not so many.
+fn next<'a, R: Read>(reader: &mut R, page: &'a mut [u8; LONGEST]) -> Option<&'a [u8]> {
+    let size = word(reader)?;
+    let case = page.get_mut(..size as usize)?;
+    reader.read_exact(case).ok()?;
+    Some(case)
 }
 
 // So many cases, up to the first that is not well made.
-fn compare<R: Read>(
-    rt: &impl Print,
-    alloc: Global,
-    reader: &mut R,
-    count: u32,
-) -> io::Result<Tally> {
+fn compare<R: Read>(rt: &impl Print, reader: &mut R, count: u32) -> io::Result<Tally> {
     let mut tally = Tally::default();
-    let patterns = Patterns::new(alloc)?;
-    let mut store = Store::new(alloc)?;
-    let mut bytes = Vec::new(alloc);
+    let marks = answers::marks();
+    let mut rooms = Rooms::new();
+    let mut store = Store::new();
+    let mut page = [0; LONGEST];
     for i in 0..count {
-        if !next(reader, &mut bytes)? {
-            break;
-        }
-        let Ok(case) = cases::take(&bytes, &mut store) else {
+        let Some(bytes) = next(reader, &mut page) else {
             break;
         };
-        let good = answers::agrees(alloc, &patterns, case, &store)?;
+        let Ok(case) = cases::take(bytes, &mut store) else {
+            break;
+        };
+        let good = answers::agrees(&marks, &mut rooms, case, &store);
         if !good {
             println!(rt; "not as the original answered: case {i}")?;
         }
@@ -67,9 +60,9 @@ fn compare<R: Read>(
 }
 
 // `VEC2`, the count of cases u32, and for each its length u32 and its bytes. Nothing comes after the last one.
-pub fn replay<R: Read + Drop>(rt: &impl Print, alloc: Global, mut reader: R) -> io::Result<()> {
+pub fn replay<R: Read + Drop>(rt: &impl Print, mut reader: R) -> io::Result<()> {
     let count = count(rt, &mut reader)?;
-    let tally = compare(rt, alloc, &mut reader, count)?;
+    let tally = compare(rt, &mut reader, count)?;
     if reader.read(&mut [0; 1])? != 0 {
         println!(rt; "the file goes on after its cases")?;
     }
