@@ -3,6 +3,7 @@ ghost use Rattle.std.specs.Prelude.{◌≡◌, IfSome, length};
 
 use crate::cases::{Case, Constant, Run, Store};
 use crate::coding::LONGEST;
+use emulate::Answer;
 use files::refusal::Refusal;
 
 // The room of the buffers that are lent.
@@ -24,7 +25,7 @@ impl Rooms {
 // What a lent buffer holds before a call comes again after so many bytes.
 const PERIOD: usize = 251;
 
-// Two such turns: nowhere 0, so that a byte that was cleared, or came from elsewhere, is told from one that was left.
+// Two such turns: nowhere 0, so that a byte that was cleared is told from one that was left.
 pub type Marks = [u8; 2 * PERIOD];
 
 pub fn marks() -> Marks {
@@ -89,10 +90,11 @@ fn run_agrees(marks: &Marks, rooms: &mut Rooms, case: Run, store: &Store) -> boo
         return false;
     };
     let found = emulate::run(&store.routine, &store.world, &store.call, buffer, workspace);
-    let number = case.answer.number;
-    // Only number 0 has a record.
+    let Answer { number, length } = case.answer;
+    // Only number 0 has a record; elsewhere the length may be a node's number.
     let record: &[u8] = if number == 0 { &store.record } else { b"" };
     found == case.answer
+        && (number != 0 || record.len() == length as usize)
         && holds(marks, buffer, record, is_late(number))
         && is_left(marks, workspace, number)
 }
