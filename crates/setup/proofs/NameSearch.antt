@@ -46,7 +46,7 @@ abbrev pub Misses : List ℕ → List ℕ → Type 0
 Misses wanted t = same t wanted ≡ false
 
 -- past the last text there is none
-no_text : (b : List ℕ) (k : ℕ) → text_count b ≤ k → get_or (texts_in b) k [] ≡ []
+pub no_text : (b : List ℕ) (k : ℕ) → text_count b ≤ k → get_or (texts_in b) k [] ≡ []
 unfolding text_count
 no_text b k h = get_or-eq_default (texts_in b) [] h
 

@@ -1,5 +1,5 @@
 -- What the functions that make a workspace ready ensure. Assumes nothing.
-use Rattle.std.specs.Prelude.{◌≡◌, true, false, List, [], map, ℕ, ◌<◌, length, get_or, Option, None}
+use Rattle.std.specs.Prelude.{◌≡◌, true, false, List, [], map, ℕ, ◌≤◌, ◌<◌, length, get_or, Option, None}
 use Rattle.layout.specs.Text.{text, same}
 use Rattle.value.specs.declared.Ty.{Ty}
 use Rattle.value.specs.declared.Val.{Val}
@@ -8,6 +8,7 @@ use Rattle.spelling.specs.Spelling.{type_of}
 use Rattle.files.specs.Program.{Program, texts_in, program_of}
 use Rattle.files.specs.Call.{limits_in}
 use Rattle.definition.specs.Walk.{declared_in}
+use Rattle.index.specs.Texts.{text_count}
 use Rattle.index.specs.Symbols.{SymbolsIndexed}
 use Rattle.index.specs.Regions.{RegionsIndexed}
 use Rattle.index.specs.Blocks.{BlocksIndexed}
@@ -43,6 +44,11 @@ pub record Spells (body : List ℕ) (n : ℕ) (w w' : List ℕ) : Type 0 where
   pub types : (i : ℕ) → i < n → type_at (tables w') i ≡ type_of (get_or (texts_in body) i [])
   pub pointees : (i : ℕ) → i < n → pointee_at (tables w') i ≡ pointee (get_or (texts_in body) i [])
   pub declared : (x : ℕ) → declared_at (tables w') x ≡ declared_at (tables w) x
+
+-- after the first m types of a table, those up to n are put, where the texts are at most m: what no text spells
+pub record Unspelled (m n : ℕ) (w w' : List ℕ) : Type 0 where
+  pub size : length w' ≡ length w
+  pub spells : (body w₀ : List ℕ) → text_count body ≤ m → Spells body m w₀ w → Spells body n w₀ w'
 
 -- the types of the routine are all that is in a workspace
 pub record TypesSet (routine w : List ℕ) : Type 0 where

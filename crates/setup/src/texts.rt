@@ -5,7 +5,7 @@ ghost use Rattle.files.specs.Program.{texts_in};
 ghost use Rattle.files.specs.Names.{names_in};
 ghost use Rattle.index.specs.Texts.{Texts, text_count};
 ghost use Rattle.workspace.specs.Parts.{workspace_size};
-ghost use Rattle.setup.specs.Post.{Finds, Spells};
+ghost use Rattle.setup.specs.Post.{Finds, Spells, Unspelled};
 
 use index::texts::texts;
 use spelling::{points_at, type_of};
@@ -27,18 +27,27 @@ pub fn find_name(names: &[u8], wanted: &[u8]) -> Option<usize>
     texts(names).position(|name| name == wanted)
 }
 
+// From a type on, what no text spells. (A loop of its own is compiled to one over many types at once, and every run and every constant goes through it.)
+fn put_unspelled(ws: &mut [u8], from: usize)
+    requires { (workspace_size ≤ length ws.old) × (from ≤ 512) }
+    ensures { Unspelled from 512 ws.old ws.new }
+{
+    let ty = type_of(b"");
+    for i in from..TYPE_LIMIT {
+        put_type(ws, i, ty, None);
+    }
+}
+
 // What each type of the body is and points at; past the last one, what no text spells.
 pub fn put_types(types: &[u8], ws: &mut [u8])
     requires { (Texts types.now) × (workspace_size ≤ length ws.old) }
     ensures { Spells types.now 512 ws.old ws.new }
 {
-    let unspelled = type_of(b"");
     let mut rest = texts(types);
     for i in 0..TYPE_LIMIT {
-        // Each arm puts by itself, so that past the last text the bytes are made once and not each time.
         match rest.next() {
             Some(text) => put_type(ws, i, type_of(text), points_at(text)),
-            None => put_type(ws, i, unspelled, None),
+            None => return put_unspelled(ws, i),
         }
     }
 }
