@@ -32,9 +32,13 @@ fn main(rt: HostRuntime) -> io::Result<()> {
     let all = gives(&mut b"twelve bytes".as_slice(), &mut [0; 20], bytes);
     let mut parts = b"twelve ".as_slice().chain(b"bytes".as_slice());
     let joined = gives(&mut parts, &mut [0; 20], bytes);
-    let front = gives(&mut b"twelve bytes".as_slice(), &mut [0; 6], b"twelve");
+    let mut reader = bytes;
+    let none = gives(&mut reader, &mut [], b"");
+    let front = gives(&mut reader, &mut [0; 6], b"twelve");
+    let behind = gives(&mut reader, &mut [0; 20], b" bytes");
     let torn = reading::read_full(&mut Torn { bytes }, &mut [0; 20]).is_err();
     println!(rt; "all is read: {all}, in parts: {joined}")?;
     println!(rt; "no more than the buffer holds: {front}")?;
+    println!(rt; "the rest comes next: {behind}, all if none was asked for: {none}")?;
     println!(rt; "an error is passed on: {torn}")
 }
