@@ -39,6 +39,6 @@ fn main(rt: HostRuntime) -> io::Result<()> {
     let torn = reading::read_full(&mut Torn { bytes }, &mut [0; 20]).is_err();
     println!(rt; "all is read: {all}, in parts: {joined}")?;
     println!(rt; "no more than the buffer holds: {front}")?;
-    println!(rt; "the rest comes next: {behind}, all if none was asked for: {none}")?;
+    println!(rt; "the rest comes next: {behind}, an empty buffer gets none: {none}")?;
     println!(rt; "an error is passed on: {torn}")
 }
